@@ -1,0 +1,20 @@
+-- `field::felt::first_over` meets its contract.
+-- Assumes nothing.
+use mathlib.Core.Path.{sym, ap, _∙_}
+use Prim.Native.Nat.{suc}
+use borrow.Author.Needs.{needs}
+use Rattle.field.proofs.Over.{over-here, over-later, over-none}
+use Rattle.field.proofs.felt.first_over.Statement.{statement}
+use Rattle.field.proofs.felt.first_over.Tie as tie
+
+returns : tie.Need-returns
+returns c = sym (over-here _ _ (search needs))
+
+returns-2 : tie.Need-returns-2
+returns-2 c = sym (over-later _ _ (search needs) ∙ ap suc (over-here _ _ (search needs)))
+
+returns-3 : tie.Need-returns-3
+returns-3 c = sym (over-later _ _ (search needs) ∙ ap suc (over-later _ _ (search needs) ∙ ap suc over-none))
+
+pub first-over-spec : {M : Type 1} → statement M
+first-over-spec = tie.close (tie.spec returns returns-2 returns-3)

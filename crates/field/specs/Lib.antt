@@ -1,0 +1,4 @@
+pub mod Told
+pub mod Field
+pub mod Pair
+pub mod Answer
