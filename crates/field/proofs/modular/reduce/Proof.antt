@@ -23,13 +23,13 @@ mul-sub-mod-3 : tie.Need-mul-sub-mod-3
 mul-sub-mod-3 c = search needs
 
 add-sub-mod-2 : tie.Need-add-sub-mod-2
-add-sub-mod-2 c = search needs
+add-sub-mod-2 c = record { fits = fits _ (in-range _ _ (below _ _ (c .sub-mod .ensures)) (omega arith) .0) }
 
 mul-sub-mod-4 : tie.Need-mul-sub-mod-4
 mul-sub-mod-4 c = search needs
 
 sub-mod-requires-2 : tie.Need-sub-mod-requires-2
-sub-mod-requires-2 c κs = search needs
+sub-mod-requires-2 c κs = in-range _ _ (below _ _ (c .sub-mod .ensures)) (omega arith)
 
 returns : tie.Need-returns
 returns c =
