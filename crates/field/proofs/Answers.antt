@@ -5,7 +5,7 @@ use mathlib.Core.List.{List, [], _∷_}
 use Prim.Native.Nat.{ℕ, _<_}
 use lib.ListN.{getD}
 use native.Mathlib.Omega.{arith}
-use Rattle.field.specs.Told.{Told, accepted, refused}
+use Rattle.field.specs.Told.{accepted}
 use Rattle.field.specs.Answer.{feltTold, quadTold, feltAnswer, quadAnswer, pairOf, cellsOf}
 use Rattle.field.specs.Field.{p}
 use Rattle.field.specs.Pair.{Pair, Elements, cells}

@@ -2,6 +2,7 @@ pub mod Ring
 pub mod Cases
 pub mod Halves
 pub mod Remainders
+pub mod Division
 pub mod Over
 pub mod Laws
 pub mod PairLaws

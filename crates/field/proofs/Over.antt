@@ -33,7 +33,7 @@ over-most (x ∷ xs) =
     (λ l. omega (arith, over-here x xs l))
     (below? x p)
 
--- every number before the first that is p or more is an element
+-- every number before it is an element, and it is none
 pub over-below : (xs : List ℕ) (k : ℕ) → k < firstOver xs → getD xs k 0 < p
 over-below [] k h = omega (arith, over-none)
 over-below (x ∷ xs) zero h = ⊎-elim (λ l. l) (λ l. absurd (omega (arith, over-here x xs l))) (below? x p)
@@ -41,6 +41,14 @@ over-below (x ∷ xs) (suc k) h =
     ⊎-elim
     (λ l. over-below xs k (omega (arith, over-later x xs l)))
     (λ l. absurd (omega (arith, over-here x xs l)))
+    (below? x p)
+
+pub over-found : (xs : List ℕ) → firstOver xs < length xs → p ≤ getD xs (firstOver xs) 0
+over-found [] h = absurd (omega (arith, over-none))
+over-found (x ∷ xs) h =
+    ⊎-elim
+    (λ l. rw (over-later x xs l) (over-found xs (omega (arith, over-later x xs l))))
+    (λ l. rw (over-here x xs l) l)
     (below? x p)
 
 pub over-all : (xs : List ℕ) → ((k : ℕ) → k < length xs → getD xs k 0 < p) → firstOver xs ≡ length xs

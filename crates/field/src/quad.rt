@@ -1,8 +1,7 @@
 // "A pair (a0, a1) stands for a0 + a1·X with X·X = 7."
 ghost use mathlib.Core.Path.{_≡_};
-ghost use mathlib.Core.List.{[], _∷_};
 ghost use Rattle.field.specs.Pair.{addPair, subPair, mulPair};
-ghost use Rattle.field.specs.Answer.{quadTold, quadAnswer};
+ghost use Rattle.field.specs.Answer.{cellsOf, quadTold, quadAnswer};
 ghost use Rattle.field.specs.Field.{firstOver};
 use crate::NOT_ELEMENT;
 use crate::P;
@@ -22,63 +21,51 @@ pub enum QuadAnswer {
 pub fn add(a: [u64; 2], b: [u64; 2]) -> QuadAnswer
     ensures { λ r. ⌜ quadTold r ≡ quadAnswer addPair a b ⌝ }
 {
-    let a0 = a[0];
-    let a1 = a[1];
-    let b0 = b[0];
-    let b1 = b[1];
-    let place = first_over(a0, a1, b0, b1);
+    let place = first_over(a, b);
     if place < 4 {
         return QuadAnswer::Refused(NOT_ELEMENT, place);
     }
-    QuadAnswer::Value(add_mod(a0, b0), add_mod(a1, b1))
+    QuadAnswer::Value(add_mod(a[0], b[0]), add_mod(a[1], b[1]))
 }
 
 pub fn sub(a: [u64; 2], b: [u64; 2]) -> QuadAnswer
     ensures { λ r. ⌜ quadTold r ≡ quadAnswer subPair a b ⌝ }
 {
-    let a0 = a[0];
-    let a1 = a[1];
-    let b0 = b[0];
-    let b1 = b[1];
-    let place = first_over(a0, a1, b0, b1);
+    let place = first_over(a, b);
     if place < 4 {
         return QuadAnswer::Refused(NOT_ELEMENT, place);
     }
-    QuadAnswer::Value(sub_mod(a0, b0), sub_mod(a1, b1))
+    QuadAnswer::Value(sub_mod(a[0], b[0]), sub_mod(a[1], b[1]))
 }
 
 // "(a0, a1)(b0, b1) = (a0·b0 + 7·a1·b1, a0·b1 + a1·b0)"
 pub fn mul(a: [u64; 2], b: [u64; 2]) -> QuadAnswer
     ensures { λ r. ⌜ quadTold r ≡ quadAnswer mulPair a b ⌝ }
 {
-    let a0 = a[0];
-    let a1 = a[1];
-    let b0 = b[0];
-    let b1 = b[1];
-    let place = first_over(a0, a1, b0, b1);
+    let place = first_over(a, b);
     if place < 4 {
         return QuadAnswer::Refused(NOT_ELEMENT, place);
     }
-    let squares = mul_mod(SQUARE, mul_mod(a1, b1));
+    let squares = mul_mod(SQUARE, mul_mod(a[1], b[1]));
     QuadAnswer::Value(
-        add_mod(mul_mod(a0, b0), squares),
-        add_mod(mul_mod(a0, b1), mul_mod(a1, b0)),
+        add_mod(mul_mod(a[0], b[0]), squares),
+        add_mod(mul_mod(a[0], b[1]), mul_mod(a[1], b[0])),
     )
 }
 
-fn first_over(a0: u64, a1: u64, b0: u64, b1: u64) -> u64
-    ensures { λ r. ⌜ r ≡ firstOver (a0 ∷ a1 ∷ b0 ∷ b1 ∷ []) ⌝ }
+fn first_over(a: [u64; 2], b: [u64; 2]) -> u64
+    ensures { λ r. ⌜ r ≡ firstOver (cellsOf a b) ⌝ }
 {
-    if P <= a0 {
+    if P <= a[0] {
         return 0;
     }
-    if P <= a1 {
+    if P <= a[1] {
         return 1;
     }
-    if P <= b0 {
+    if P <= b[0] {
         return 2;
     }
-    if P <= b1 {
+    if P <= b[1] {
         return 3;
     }
     4

@@ -8,8 +8,7 @@ use native.Mathlib.Omega.{arith}
 use borrow.Author.Tests.{lt-ltb, le-ltb}
 use Rattle.field.specs.Told.{accepted, refused}
 use Rattle.field.specs.Field.{p, firstOver}
-use Rattle.field.specs.Answer.{ofElements}
-use Rattle.field.proofs.Over.{over-here, over-later, over-none, refused-at, of-elements}
+use Rattle.field.proofs.Over.{over-here, over-later, refused-at, of-elements}
 use Rattle.field.proofs.Cases.{below?}
 use Rattle.instruction.specs.Decode.{leftId, rightId, opcode, decodeAnswer}
 
@@ -18,7 +17,7 @@ pub not-element : (v : ℕ) → p ≤ v → decodeAnswer v ≡ refused 7 0
 unfolding decodeAnswer
 not-element v h = sym (refused-at (v ∷ []) _ 0 (sym (over-here v [] h)) (omega arith))
 
-element : (v : ℕ) → v < p → (1 ≤ firstOver (v ∷ []))
+element : (v : ℕ) → v < p → 1 ≤ firstOver (v ∷ [])
 element v h = omega (arith, over-later v [] h)
 
 pub not-instruction : (v : ℕ) → v < p → 3 ≤ opcode v → decodeAnswer v ≡ refused 8 0

@@ -3,7 +3,8 @@
 use mathlib.Core.Path.{refl, _∙_}
 use native.Mathlib.Omega.{arith}
 use borrow.Author.Needs.{needs}
-use Rattle.field.proofs.Remainders.{in-range, turn, fits, mod-below, below, divided}
+use Rattle.field.proofs.Remainders.{mod-below}
+use Rattle.field.proofs.Division.{in-range, turn, fits, below, divided}
 use Rattle.field.proofs.modular.reduce.Statement.{statement}
 use Rattle.field.proofs.modular.reduce.Tie as tie
 

@@ -9,23 +9,17 @@ use Rattle.field.proofs.Remainders.{sum-of, product-of}
 use Rattle.field.proofs.quad.mul.Statement.{statement}
 use Rattle.field.proofs.quad.mul.Tie as tie
 
-array-read-a0 : tie.Need-array-read-a0
-array-read-a0 c = search needs
-
-array-read-a1 : tie.Need-array-read-a1
-array-read-a1 c = search needs
-
-array-read-b0 : tie.Need-array-read-b0
-array-read-b0 c = search needs
-
-array-read-b1 : tie.Need-array-read-b1
-array-read-b1 c = search needs
-
 first-over-requires : tie.Need-first-over-requires
 first-over-requires c κs = search needs
 
 returns : tie.Need-returns
 returns c = refused-at _ _ _ (c .before .first-over .ensures) (c .if1 .taken)
+
+array-read-mul-mod : tie.Need-array-read-mul-mod
+array-read-mul-mod c = search needs
+
+array-read-mul-mod-2 : tie.Need-array-read-mul-mod-2
+array-read-mul-mod-2 c = search needs
 
 mul-mod-requires : tie.Need-mul-mod-requires
 mul-mod-requires c κs = search needs
@@ -33,14 +27,32 @@ mul-mod-requires c κs = search needs
 mul-mod-requires-2 : tie.Need-mul-mod-requires-2
 mul-mod-requires-2 c κs = search needs
 
+array-read-mul-mod-3 : tie.Need-array-read-mul-mod-3
+array-read-mul-mod-3 c = search needs
+
+array-read-mul-mod-4 : tie.Need-array-read-mul-mod-4
+array-read-mul-mod-4 c = search needs
+
 mul-mod-requires-3 : tie.Need-mul-mod-requires-3
 mul-mod-requires-3 c κs = search needs
 
 add-mod-requires : tie.Need-add-mod-requires
 add-mod-requires c κs = search needs
 
+array-read-mul-mod-5 : tie.Need-array-read-mul-mod-5
+array-read-mul-mod-5 c = search needs
+
+array-read-mul-mod-6 : tie.Need-array-read-mul-mod-6
+array-read-mul-mod-6 c = search needs
+
 mul-mod-requires-4 : tie.Need-mul-mod-requires-4
 mul-mod-requires-4 c κs = search needs
+
+array-read-mul-mod-7 : tie.Need-array-read-mul-mod-7
+array-read-mul-mod-7 c = search needs
+
+array-read-mul-mod-8 : tie.Need-array-read-mul-mod-8
+array-read-mul-mod-8 c = search needs
 
 mul-mod-requires-5 : tie.Need-mul-mod-requires-5
 mul-mod-requires-5 c κs = search needs
@@ -72,17 +84,21 @@ pub mul-spec : {M : Type 1} → statement M
 mul-spec =
     tie.close
     (tie.spec
-    array-read-a0
-    array-read-a1
-    array-read-b0
-    array-read-b1
     first-over-requires
     returns
+    array-read-mul-mod
+    array-read-mul-mod-2
     mul-mod-requires
     mul-mod-requires-2
+    array-read-mul-mod-3
+    array-read-mul-mod-4
     mul-mod-requires-3
     add-mod-requires
+    array-read-mul-mod-5
+    array-read-mul-mod-6
     mul-mod-requires-4
+    array-read-mul-mod-7
+    array-read-mul-mod-8
     mul-mod-requires-5
     add-mod-requires-2
     returns-2)

@@ -10,18 +10,6 @@ use Rattle.field.proofs.Over.{refused-at, pairs-passed, accepted-of}
 use Rattle.field.proofs.quad.sub.Statement.{statement}
 use Rattle.field.proofs.quad.sub.Tie as tie
 
-array-read-a0 : tie.Need-array-read-a0
-array-read-a0 c = search needs
-
-array-read-a1 : tie.Need-array-read-a1
-array-read-a1 c = search needs
-
-array-read-b0 : tie.Need-array-read-b0
-array-read-b0 c = search needs
-
-array-read-b1 : tie.Need-array-read-b1
-array-read-b1 c = search needs
-
 first-over-requires : tie.Need-first-over-requires
 first-over-requires c κs = search needs
 
@@ -31,8 +19,20 @@ returns c = refused-at _ _ _ (c .before .first-over .ensures) (c .if1 .taken)
 elements : (c : tie.Else1) → Elements (pairOf (c .before .before .args .t1)) × Elements (pairOf (c .before .before .args .t2))
 elements c = pairs-passed _ _ _ _ _ (c .before .first-over .ensures) (c .if1 .left)
 
+array-read-sub-mod : tie.Need-array-read-sub-mod
+array-read-sub-mod c = search needs
+
+array-read-sub-mod-2 : tie.Need-array-read-sub-mod-2
+array-read-sub-mod-2 c = search needs
+
 sub-mod-requires : tie.Need-sub-mod-requires
 sub-mod-requires c κs = let h = elements c in search needs
+
+array-read-sub-mod-3 : tie.Need-array-read-sub-mod-3
+array-read-sub-mod-3 c = search needs
+
+array-read-sub-mod-4 : tie.Need-array-read-sub-mod-4
+array-read-sub-mod-4 c = search needs
 
 sub-mod-requires-2 : tie.Need-sub-mod-requires-2
 sub-mod-requires-2 c κs = let h = elements (c .before) in search needs
@@ -53,12 +53,12 @@ pub sub-spec : {M : Type 1} → statement M
 sub-spec =
     tie.close
     (tie.spec
-    array-read-a0
-    array-read-a1
-    array-read-b0
-    array-read-b1
     first-over-requires
     returns
+    array-read-sub-mod
+    array-read-sub-mod-2
     sub-mod-requires
+    array-read-sub-mod-3
+    array-read-sub-mod-4
     sub-mod-requires-2
     returns-2)
