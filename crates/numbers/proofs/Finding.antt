@@ -64,8 +64,8 @@ pub in-good-form : (n b : ℕ) → illFormed n b ≡ false → WellFormed n b
 unfolding illFormed
 in-good-form n b e =
     record {
-      shortest = λ h. some (eqb-false b 0 (not-first (ltb 0 n) (eqb b 0) _ e (lt-ltb 0 n h)));
-      tenth = λ h. ltb-false 1 b (not-second (eqb n 9) (ltb 1 b) _ e (eq-eqb n 9 h));
+      shortest = λ h. some (eqb-false b 0 (not-first (ltb 0 n) (eqb b 0) (eqb n 9 && ltb 1 b) e (lt-ltb 0 n h)));
+      tenth = λ h. ltb-false 1 b (not-second (eqb n 9) (ltb 1 b) (ltb 0 n && eqb b 0) e (eq-eqb n 9 h));
     }
   where
     some : (b ≡ 0 → ⊥) → 0 < b

@@ -1,2 +1,7 @@
 pub mod Groups
 pub mod Finding
+pub mod Writing
+pub mod Reading
+pub mod Below
+pub mod RoundTrip
+pub mod Answers
