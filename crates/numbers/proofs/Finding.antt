@@ -1,7 +1,7 @@
 -- The equations of `illFormed` and `findFrom`.
 -- Assumes nothing.
 use Prim.Native.Nat.{ℕ, suc, _≤_, _<_}
-use mathlib.Core.Path.{_≡_, refl}
+use mathlib.Core.Path.{_≡_, refl, sym, _∙_}
 use mathlib.Core.Bool.{Bool, true, false, _&&_, _||_}
 use mathlib.Core.List.{List, [], _∷_}
 use native.Mathlib.Omega.{arith}
@@ -19,17 +19,17 @@ second-alone true y = refl
 second-alone false y = refl
 
 -- the three cases, as `ill_formed` asks for them
-pub ill-zero : (n b : ℕ) → b ≡ 0 → illFormed n b ≡ ltb 0 n
+pub ill-zero : (n b : ℕ) (t : Bool) → b ≡ 0 → t ≡ ltb 0 n → t ≡ illFormed n b
 unfolding illFormed
-ill-zero n b e = let l : b ≤ 1 = omega arith in rw (eq-eqb b 0 e, le-ltb 1 b l) (first-alone (ltb 0 n) (eqb n 9))
+ill-zero n b t e q = let l : b ≤ 1 = omega arith in q ∙ sym (rw (eq-eqb b 0 e, le-ltb 1 b l) (first-alone (ltb 0 n) (eqb n 9)))
 
-pub ill-tenth : (n b : ℕ) → (b ≡ 0 → ⊥) → n ≡ 9 → illFormed n b ≡ ltb 1 b
+pub ill-tenth : (n b : ℕ) (t : Bool) → (b ≡ 0 → ⊥) → n ≡ 9 → t ≡ ltb 1 b → t ≡ illFormed n b
 unfolding illFormed
-ill-tenth n b h e = rw (ne-eqb b 0 h, eq-eqb n 9 e) (second-alone (ltb 0 n) (ltb 1 b))
+ill-tenth n b t h e q = q ∙ sym (rw (ne-eqb b 0 h, eq-eqb n 9 e) (second-alone (ltb 0 n) (ltb 1 b)))
 
-pub ill-other : (n b : ℕ) → (b ≡ 0 → ⊥) → (n ≡ 9 → ⊥) → illFormed n b ≡ false
+pub ill-other : (n b : ℕ) (t : Bool) → (b ≡ 0 → ⊥) → (n ≡ 9 → ⊥) → t ≡ false → t ≡ illFormed n b
 unfolding illFormed
-ill-other n b h e = rw (ne-eqb b 0 h, ne-eqb n 9 e) (second-alone (ltb 0 n) false)
+ill-other n b t h e q = q ∙ sym (rw (ne-eqb b 0 h, ne-eqb n 9 e) (second-alone (ltb 0 n) false))
 
 -- what a byte in good form is, and that nothing else is asked of it
 pub record WellFormed (n b : ℕ) : Type 0 where

@@ -1,6 +1,7 @@
 // "Numbers in groups of seven bits, lowest first, high bit set on all but the last, shortest form,
 // at most ten bytes."
 ghost use mathlib.Core.Path.{_≡_};
+ghost use Prim.Native.Nat.{_-_};
 ghost use Rattle.numbers.specs.Form.{widthOf, illFormed};
 ghost use Rattle.numbers.specs.Answer.{writeTold, writeAnswer, written, readTold, readAnswer, readBelowAnswer};
 
@@ -43,11 +44,7 @@ pub fn write(v: u64, out: &mut [u8], at: usize) -> WriteAnswer
     ensures { λ r. ⌜ writeTold r ≡ writeAnswer v (now (out .entry)) at ⌝ }
     ensures { λ r. ⌜ now (out .exit) ≡ written v (now (out .entry)) at ⌝ }
 {
-    // Two tests, since at + width(v) may be past the largest usize.
-    if out.len() < at {
-        return WriteAnswer::Refused(NO_ROOM, 0);
-    }
-    if out.len() - at < width(v) {
+    if bytes_left(out.len(), at) < width(v) {
         return WriteAnswer::Refused(NO_ROOM, 0);
     }
     let mut rest = v;
@@ -59,6 +56,13 @@ pub fn write(v: u64, out: &mut [u8], at: usize) -> WriteAnswer
     }
     out[i] = rest as u8;
     WriteAnswer::Next(i + 1)
+}
+
+// How many bytes there are from the place at on; at may be anything.
+fn bytes_left(len: usize, at: usize) -> usize
+    ensures { λ r. ⌜ r ≡ len - at ⌝ }
+{
+    if len < at { 0 } else { len - at }
 }
 
 // Reads the number that starts at the place at of s. Both refusals tell that place.

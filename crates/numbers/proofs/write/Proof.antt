@@ -1,11 +1,10 @@
 -- `numbers::write` meets its contract.
 -- Assumes nothing.
-use mathlib.Core.Path.{sym, _∙_}
-use Prim.Native.Nat.{_+_, _≤_, _<_}
+use mathlib.Core.Path.{sym, ap₂, _∙_}
 use native.Mathlib.Omega.{arith}
 use borrow.Author.Needs.{needs}
-use denote.Ref.{now}
-use lib.ListN.{length, length-set}
+use lib.ListN.{length-set}
+use Rattle.field.specs.Told.{refused}
 use Rattle.numbers.proofs.Groups.{width-some}
 use Rattle.numbers.proofs.Writing.{no-room-answer, no-room-written, Left, left-start, left-within, left-next, left-answer, left-done}
 use Rattle.numbers.proofs.write.Statement.{statement}
@@ -17,25 +16,19 @@ Inv-loop v out₀ at rest₀ i₀ out rest i = Left v out₀ at out rest i
 abbrev μ-loop : tie.MeasureT-loop
 μ-loop v out₀ at rest₀ i₀ out rest i = rest
 
-returns : tie.Need-returns Inv-loop μ-loop
-returns c =
-    let a = c .before .before .args in
-    let w = width-some (a .v) in
-    (sym (no-room-answer _ _ _ (omega arith)), sym (no-room-written (a .v) (now (a .out)) (a .at) (omega arith)))
-
-sub-if2 : tie.Need-sub-if2 Inv-loop μ-loop
-sub-if2 c = search needs
+bytes-left-requires : tie.Need-bytes-left-requires Inv-loop μ-loop
+bytes-left-requires c κs = search needs
 
 width-requires : tie.Need-width-requires Inv-loop μ-loop
 width-requires c κs = search needs
 
-returns-2 : tie.Need-returns-2 Inv-loop μ-loop
-returns-2 c =
-    let a = c .before .before .before .before .args in
-    (sym (no-room-answer _ _ _ (omega arith)), sym (no-room-written (a .v) (now (a .out)) (a .at) (omega arith)))
+returns : tie.Need-returns Inv-loop μ-loop
+returns c = (ap₂ refused (omega arith) (omega arith) ∙ sym (no-room-answer _ _ _ (omega arith)), sym (no-room-written _ _ _ (omega arith)))
 
 loop-holds : tie.Need-loop-holds Inv-loop μ-loop
-loop-holds c = left-start _ _ _ (c .before .before .before .before .fits .v .fits) (omega arith)
+loop-holds c =
+    let a = c .before .before .before .before in
+    left-start _ _ _ (a .fits .v .fits) (omega (arith, width-some (a .args .v)))
 
 add-out : tie.Need-add-out Inv-loop μ-loop
 add-out c = search needs
@@ -67,8 +60,8 @@ add-t6 c = omega (arith, left-within (c .before .loop .inv))
 same-length : tie.Need-same-length Inv-loop μ-loop
 same-length c = simp length-set (c .before .loop .inv .same)
 
-returns-3 : tie.Need-returns-3 Inv-loop μ-loop
-returns-3 c =
+returns-2 : tie.Need-returns-2 Inv-loop μ-loop
+returns-2 c =
     let l = c .before .loop .inv in
     (left-answer l _ (omega arith) (search needs), left-done l (search needs))
 
@@ -78,10 +71,9 @@ write-spec =
     (tie.spec
     Inv-loop
     μ-loop
-    returns
-    sub-if2
+    bytes-left-requires
     width-requires
-    returns-2
+    returns
     loop-holds
     add-out
     cast-out
@@ -93,4 +85,4 @@ write-spec =
     slice-write-out-2
     add-t6
     same-length
-    returns-3)
+    returns-2)
