@@ -7,7 +7,7 @@ use mathlib.Core.List.{List, [], _∷_}
 use native.Mathlib.Omega.{arith}
 use lib.Dec.{ltb, eqb}
 use borrow.Author.Tests.{lt-ltb, le-ltb, eq-eqb, ne-eqb, ltb-true, ltb-false, eqb-true, eqb-false}
-use Rattle.numbers.specs.Form.{Found, found, cutOff, notShortest, under, illFormed, findFrom}
+use Rattle.numbers.specs.Form.{found, cutOff, notShortest, under, illFormed, findFrom}
 
 first-alone : (x y : Bool) → (x && true) || (y && false) ≡ x
 first-alone true y = refl

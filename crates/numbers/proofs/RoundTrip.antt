@@ -9,7 +9,7 @@ use native.Mathlib.Nat.{pow-suc}
 use native.Mathlib.Omega.{arith}
 use lib.ListN.{length, getD, take, drop, take-append-drop, length-drop}
 use lib.Seq.{sets, sets-eq, slice, drop-at, getD-drop, take-add, length-take-le}
-use Rattle.field.specs.Told.{Told, accepted, refused}
+use Rattle.field.specs.Told.{accepted, refused}
 use Rattle.field.proofs.Cases.{below?}
 use Rattle.numbers.specs.Form.{bytesIn, bytesOf, groupsIn, widthOf, Found, found, cutOff, notShortest, under, illFormed, findFrom}
 use Rattle.numbers.specs.Answer.{foundAt, readAnswer, written}
