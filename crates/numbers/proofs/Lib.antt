@@ -5,3 +5,4 @@ pub mod Reading
 pub mod Below
 pub mod RoundTrip
 pub mod Answers
+pub mod Edges

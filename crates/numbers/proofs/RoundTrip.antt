@@ -17,7 +17,7 @@ use Rattle.numbers.proofs.Groups.{bytes-last, bytes-more, groups-last, 
 use Rattle.numbers.proofs.Finding.{WellFormed, good-form, in-good-form, find-end, find-ill, find-last, find-more}
 use Rattle.numbers.proofs.Writing.{room-written}
 
--- ---- what is written is read
+-- What is written is read.
 
 find-one : (k n v : ℕ) (t : List ℕ) → v < 128 → WellFormed n v → findFrom n (bytesIn (suc k) v ++ t) ≡ found v (groupsIn (suc k) v)
 find-one k n v t h w = rw (bytes-last k v h, groups-last k v h) (find-last n v t (good-form n v w) h)
@@ -57,7 +57,7 @@ reads-back v out at h room =
     let d = written-is-read (take at out) (drop (at + length (bytesOf v)) out) v h in
     rw (room-written v out at room, sets-eq (bytesOf v) out at (omega arith), append-assoc) (rw l at d)
 
--- ---- what is read is written back to the same bytes
+-- What is read is written back to the same bytes.
 
 -- a list whose numbers are bytes
 abbrev pub Bytes : List ℕ → Type 0
@@ -192,7 +192,7 @@ pub one-form : (s t : List ℕ) (at to v m n : ℕ) → Bytes s → Bytes t
     → readAnswer s at ≡ accepted (v ∷ m ∷ []) → readAnswer t to ≡ accepted (v ∷ n ∷ []) → slice at m s ≡ slice to n t
 one-form s t at to v m n hs ht e f = read-is-written s at v m hs e .bytes ∙ sym (read-is-written t to v n ht f .bytes)
 
--- ---- no more than ten bytes are looked at
+-- No more than ten bytes are looked at.
 
 find-same : (n b : ℕ) (s t : List ℕ) → (128 ≤ b → WellFormed n b → findFrom (suc n) s ≡ findFrom (suc n) t) → findFrom n (b ∷ s) ≡ findFrom n (b ∷ t)
 find-same n b s t more = go (illFormed n b) refl

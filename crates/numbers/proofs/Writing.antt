@@ -3,12 +3,14 @@
 use Prim.Native.Nat.{ℕ, _+_, _/_, _%_, _^_, _≤_, _<_}
 use mathlib.Core.Path.{_≡_, refl, ap, _∙_}
 use mathlib.Core.List.{List, [], _∷_}
+use mathlib.Core.Logic.{⊎-elim}
 use native.Mathlib.Numerals.{add-one}
 use native.Mathlib.Omega.{arith}
 use lib.ListN.{length, set, length-set}
-use lib.Seq.{sets}
+use lib.Seq.{sets, length-sets}
 use borrow.Author.Tests.{le-leb, lt-leb}
 use Rattle.field.specs.Told.{accepted, refused}
+use Rattle.field.proofs.Cases.{below?}
 use Rattle.numbers.specs.Form.{bytesOf, widthOf}
 use Rattle.numbers.specs.Answer.{writeAnswer, written}
 use Rattle.numbers.proofs.Groups.{width-some, width-last, width-more, bytesOf-last, bytesOf-more}
@@ -29,6 +31,13 @@ module _ (v : ℕ) (out : List ℕ) (at : ℕ) where
   pub no-room-written : length out < at + widthOf v → written v out at ≡ out
   unfolding written
   no-room-written h = rw (lt-leb (at + widthOf v) (length out) h)
+
+  pub written-length : length (written v out at) ≡ length out
+  written-length =
+      ⊎-elim
+      (λ l. ap length (no-room-written l))
+      (λ l. ap length (room-written l) ∙ length-sets out at (bytesOf v))
+      (below? (length out) (at + widthOf v))
 
 -- with rest to be written from i on, what that will leave is what writing v from at on leaves
 pub record Left (v : ℕ) (old : List ℕ) (at : ℕ) (out : List ℕ) (rest i : ℕ) : Type 0 where

@@ -37,7 +37,7 @@ under b notShortest = notShortest
 unfoldable pub illFormed : ℕ → ℕ → Bool
 illFormed n b = (ltb 0 n && eqb b 0) || (eqb n 9 && ltb 1 b)
 
--- what stands at the head of bytes, after n bytes of the number; it is never looked at past the tenth, which is at most 1 and so the last
+-- what stands at the head of bytes, after n bytes of a number; the tenth, if it is in good form, is at most 1 and so the last
 unfoldable pub findFrom : ℕ → List ℕ → Found
 findFrom n [] = cutOff
 findFrom n (b ∷ s) = cond (illFormed n b) notShortest (cond (ltb b 128) (found b 1) (under b (findFrom (suc n) s)))
