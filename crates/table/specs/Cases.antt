@@ -9,11 +9,13 @@ use Rattle.field.specs.Field.{p, firstOver}
 use Rattle.field.specs.Pair.{mulPair, subPair}
 use Rattle.field.specs.Answer.{ofElements, quadAnswer}
 use Rattle.instruction.specs.Decode.{decodeAnswer}
+use Rattle.numbers.specs.Form.{bytesOf, bytesIn}
 
 pub data Question : Type 0 where
   decode : ℕ → Question
   times : List ℕ → List ℕ → Question
   minus : List ℕ → List ℕ → Question
+  bytes : ℕ → Question
 
 pub record Case : Type 0 where
   pub name : String
@@ -24,6 +26,7 @@ abbrev pub ask : Question → Told
 ask (decode v) = decodeAnswer v
 ask (times a b) = quadAnswer mulPair a b
 ask (minus a b) = quadAnswer subPair a b
+ask (bytes v) = accepted (bytesOf v)
 
 abbrev case : String → Question → Told → Case
 case n q t = record { name = n; question = q; answer = t }
@@ -38,8 +41,10 @@ cases =
     ∷ case "P6" (times (0 ∷ 1 ∷ []) (0 ∷ 1 ∷ [])) (accepted (7 ∷ 0 ∷ []))
     ∷ case "P7" (times (1 ∷ 2 ∷ []) (3 ∷ 4 ∷ [])) (accepted (59 ∷ 10 ∷ []))
     ∷ case "P8" (minus (0 ∷ 0 ∷ []) (1 ∷ 0 ∷ [])) (accepted ((p - 1) ∷ 0 ∷ []))
+    ∷ case "P9" (bytes 128) (accepted (0x80 ∷ 0x01 ∷ []))
+    ∷ case "P10" (bytes (p - 1)) (accepted (0x80 ∷ 0x80 ∷ 0x80 ∷ 0x80 ∷ 0xf0 ∷ 0xff ∷ 0xff ∷ 0xff ∷ 0xff ∷ 0x01 ∷ []))
     ∷ []
 
 pub all-hold : map (λ (c : Case). ask (c .question)) cases ≡ map (λ (c : Case). c .answer) cases
-unfolding decodeAnswer ofElements firstOver
+unfolding decodeAnswer ofElements firstOver bytesOf bytesIn
 all-hold = refl
