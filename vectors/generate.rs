@@ -1,5 +1,9 @@
-//! The questions of the program `vectors` and the answers that document 01, parts 1 to 3, gives
-//! to them. `generate questions` and `generate answers` write one line each, in the same order.
+//! The questions of the program `vectors` and the answers that document 01 gives to them: those on
+//! parts 1 to 3 here, and after them those of `number_cases`. `generate questions` and `generate answers`
+//! write one line each, in the same order.
+
+mod number_cases;
+mod numbers;
 
 use std::fmt;
 use std::io::{self, BufWriter, Write};
@@ -280,11 +284,25 @@ fn write_lines<T: fmt::Display>(lines: impl Iterator<Item = T>) -> io::Result<()
     out.flush()
 }
 
+fn write_questions() -> io::Result<()> {
+    write_lines(questions().iter())?;
+    write_lines(number_cases::questions().iter())
+}
+
+fn write_answers() -> io::Result<()> {
+    write_lines(questions().iter().map(Question::answer))?;
+    write_lines(
+        number_cases::questions()
+            .iter()
+            .map(numbers::Question::answer),
+    )
+}
+
 fn main() -> ExitCode {
     let asked = std::env::args().nth(1);
     let written = match asked.as_deref() {
-        Some("questions") => write_lines(questions().iter()),
-        Some("answers") => write_lines(questions().iter().map(Question::answer)),
+        Some("questions") => write_questions(),
+        Some("answers") => write_answers(),
         _ => {
             eprintln!("usage: generate questions|answers");
             return ExitCode::FAILURE;

@@ -1,7 +1,10 @@
 // Answers the questions of its input, one to a line: a letter and its numbers, each after one space.
 // `a`, `s` and `m` ask for the sum, the difference and the product of two elements, `A`, `S` and `M`
-// for those of two pairs, and `d` for what a gate word means. vectors/generate.rs makes the
-// questions, and the answers that this program has to write.
+// for those of two pairs, and `d` for what a gate word means; src/groups.rt has the questions `w`,
+// `W`, `r` and `b`. vectors/generate.rs makes the questions, and the answers that this program has
+// to write.
+mod groups;
+
 ghost use Prim.Native.Nat.{_≤_};
 ghost use lib.ListN.{length};
 use field::felt::FeltAnswer;
@@ -14,6 +17,9 @@ use libc::STDOUT_FILENO;
 // More than the questions take: input beyond it would not be read.
 const ROOM: usize = 524288;
 
+// The bytes that a question names, or that a number is written into.
+const BUFFER: usize = 16;
+
 const MAX: u64 = 18446744073709551615;
 
 // A number and the place after it.
@@ -23,10 +29,15 @@ enum Number {
 }
 
 // What is said of a line: its value, or the refusal's number and place, or that it is no question.
+// Where a number was to be written, all of the buffer is said too.
 enum Reply {
     Element(u64),
     Pair(u64, u64),
     Gate(u32, u32, u64),
+    Width(usize),
+    Found(u64, usize),
+    Written(usize),
+    NotWritten(u32, u64),
     Refused(u32, u64),
     Bad,
 }
@@ -146,7 +157,7 @@ fn of_word(line: &[u8]) -> Reply {
     decode_reply(instruction::decode_instruction(word))
 }
 
-fn reply_to(line: &[u8]) -> Reply {
+fn reply_to(line: &[u8], buffer: &mut [u8]) -> Reply {
     if line.len() == 0 {
         return Reply::Bad;
     }
@@ -159,6 +170,10 @@ fn reply_to(line: &[u8]) -> Reply {
         b'S' => of_pairs(Op::Sub, line),
         b'M' => of_pairs(Op::Mul, line),
         b'd' => of_word(line),
+        b'w' => groups::of_width(line),
+        b'W' => groups::of_write(line, &mut *buffer),
+        b'r' => groups::of_read(line, &mut *buffer),
+        b'b' => groups::of_read_below(line, &mut *buffer),
         _ => Reply::Bad,
     }
 }
@@ -172,6 +187,12 @@ fn say_number(n: u64) {
     io::print_decimal(STDOUT_FILENO, n);
 }
 
+fn say_one(what: &[u8], n: u64) {
+    say(what);
+    say_number(n);
+    say(b"\n");
+}
+
 fn say_two(what: &[u8], m: u64, n: u64) {
     say(what);
     say_number(m);
@@ -179,18 +200,40 @@ fn say_two(what: &[u8], m: u64, n: u64) {
     say(b"\n");
 }
 
-fn say_reply(reply: Reply) {
+fn say_byte(byte: u8) {
+    say_number(byte as u64);
+}
+
+fn say_bytes(bytes: &[u8]) {
+    let mut i: usize = 0;
+    while i < bytes.len() {
+        say_byte(bytes[i]);
+        i += 1;
+    }
+    say(b"\n");
+}
+
+fn say_reply(reply: Reply, buffer: &[u8]) {
     match reply {
-        Reply::Element(v) => {
-            say(b"accept");
-            say_number(v);
-            say(b"\n");
-        }
+        Reply::Element(v) => say_one(b"accept", v),
         Reply::Pair(v0, v1) => say_two(b"accept", v0, v1),
         Reply::Gate(left, right, opcode) => {
             say(b"accept");
             say_number(left as u64);
             say_two(b"", right as u64, opcode);
+        }
+        Reply::Width(bytes) => say_one(b"accept", bytes as u64),
+        Reply::Found(value, next) => say_two(b"accept", value, next as u64),
+        Reply::Written(next) => {
+            say(b"accept");
+            say_number(next as u64);
+            say_bytes(buffer);
+        }
+        Reply::NotWritten(number, place) => {
+            say(b"refuse");
+            say_number(number as u64);
+            say_number(place);
+            say_bytes(buffer);
         }
         Reply::Refused(number, place) => say_two(b"refuse", number as u64, place),
         Reply::Bad => say(b"bad question\n"),
@@ -217,12 +260,13 @@ fn say_all(s: &[u8]) {
     let mut at = 0;
     while at < s.len() {
         let end = line_end(s, at);
+        let mut buffer = [0u8; BUFFER];
         if end == s.len() {
-            say_reply(Reply::Bad);
+            say_reply(Reply::Bad, &buffer);
             return;
         }
-        let answer = reply_to(&s[at..end]);
-        say_reply(answer);
+        let answer = reply_to(&s[at..end], &mut buffer);
+        say_reply(answer, &buffer);
         if let Reply::Bad = answer {
             return;
         }

@@ -17,6 +17,9 @@ loop-holds c = search needs
 line-end-requires : tie.Need-line-end-requires Inv-loop μ-loop
 line-end-requires c κs = search needs
 
+slice-aggregate-say-reply : tie.Need-slice-aggregate-say-reply Inv-loop μ-loop
+slice-aggregate-say-reply c = search needs
+
 say-reply-requires : tie.Need-say-reply-requires Inv-loop μ-loop
 say-reply-requires c κs = search needs
 
@@ -32,8 +35,14 @@ part-reply-to-start c = search needs
 part-reply-to-end : tie.Need-part-reply-to-end Inv-loop μ-loop
 part-reply-to-end c = search needs
 
+slice-aggregate-reply-to : tie.Need-slice-aggregate-reply-to Inv-loop μ-loop
+slice-aggregate-reply-to c = search needs
+
 reply-to-requires : tie.Need-reply-to-requires Inv-loop μ-loop
 reply-to-requires c κs = search needs
+
+slice-aggregate-say-reply-2 : tie.Need-slice-aggregate-say-reply-2 Inv-loop μ-loop
+slice-aggregate-say-reply-2 c = search needs
 
 say-reply-requires-2 : tie.Need-say-reply-requires-2 Inv-loop μ-loop
 say-reply-requires-2 c κs = search needs
@@ -64,12 +73,15 @@ say-all-spec =
     μ-loop
     loop-holds
     line-end-requires
+    slice-aggregate-say-reply
     say-reply-requires
     returns
     sub-reply-to
     part-reply-to-start
     part-reply-to-end
+    slice-aggregate-reply-to
     reply-to-requires
+    slice-aggregate-say-reply-2
     say-reply-requires-2
     enum-told
     returns-2
