@@ -2,10 +2,14 @@
 //! buffers. Plain Rust is timed twice: called through the same kind of function as the exports, and
 //! inlined, as the functions of an archive never are.
 
+#[path = "../vectors/random.rs"]
+mod random;
+
 use std::hint::black_box;
 use std::time::Instant;
 
 use plain::Refusal;
+use random::Random;
 
 const P: u64 = 18_446_744_069_414_584_321;
 
@@ -103,17 +107,7 @@ impl Codec for Inlined {
     }
 }
 
-/// splitmix64.
-struct Random(u64);
-
 impl Random {
-    fn next(&mut self) -> u64 {
-        self.0 = self.0.wrapping_add(0x9e37_79b9_7f4a_7c15);
-        let z = (self.0 ^ (self.0 >> 30)).wrapping_mul(0xbf58_476d_1ce4_e5b9);
-        let z = (z ^ (z >> 27)).wrapping_mul(0x94d0_49bb_1331_11eb);
-        z ^ (z >> 31)
-    }
-
     fn below(&mut self, end: usize) -> usize {
         (self.next() % end as u64) as usize
     }

@@ -4,11 +4,14 @@
 
 mod number_cases;
 mod numbers;
+mod random;
 
 use std::fmt;
 use std::io::{self, BufWriter, Write};
 use std::ops::Range;
 use std::process::ExitCode;
+
+use random::Random;
 
 /// "p = 2^64 - 2^32 + 1 = 18446744069414584321."
 const P: u64 = 18_446_744_069_414_584_321;
@@ -182,17 +185,7 @@ impl fmt::Display for Answer {
     }
 }
 
-/// splitmix64.
-struct Random(u64);
-
 impl Random {
-    fn next(&mut self) -> u64 {
-        self.0 = self.0.wrapping_add(0x9e37_79b9_7f4a_7c15);
-        let z = (self.0 ^ (self.0 >> 30)).wrapping_mul(0xbf58_476d_1ce4_e5b9);
-        let z = (z ^ (z >> 27)).wrapping_mul(0x94d0_49bb_1331_11eb);
-        z ^ (z >> 31)
-    }
-
     /// A plain random u64 is p or more once in 2^32 draws, so one draw in sixteen is made so.
     fn number(&mut self) -> u64 {
         if self.next() >> 60 == 0 {
