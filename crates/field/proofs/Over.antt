@@ -25,6 +25,7 @@ pub over-none : firstOver [] ≡ 0
 unfolding firstOver
 over-none = refl
 
+-- it is what its comment says: at most the length; every number before it is an element, and it is none; the length where all are elements
 pub over-most : (xs : List ℕ) → firstOver xs ≤ length xs
 over-most [] = omega (arith, over-none)
 over-most (x ∷ xs) =
@@ -33,7 +34,6 @@ over-most (x ∷ xs) =
     (λ l. omega (arith, over-here x xs l))
     (below? x p)
 
--- every number before it is an element, and it is none
 pub over-below : (xs : List ℕ) (k : ℕ) → k < firstOver xs → getD xs k 0 < p
 over-below [] k h = omega (arith, over-none)
 over-below (x ∷ xs) zero h = ⊎-elim (λ l. l) (λ l. absurd (omega (arith, over-here x xs l))) (below? x p)

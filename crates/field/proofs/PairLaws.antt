@@ -7,13 +7,13 @@ use Rattle.field.specs.Field.{p}
 use Rattle.field.specs.Pair.{Pair, pair, Elements, square, addPair, subPair, mulPair}
 use Rattle.field.proofs.Ring.{ring}
 use Rattle.field.proofs.Remainders.{mul-mod-mod, mod-mul-mod, mod-below}
-use Rattle.field.proofs.Laws.{add-commutes, add-associates, sub-restores}
+use Rattle.field.proofs.Laws.{add-below, sub-below, add-commutes, add-associates, sub-restores}
 
 pub add-elements : (a b : Pair) → Elements (addPair a b)
-add-elements a b = record { low = mod-below _; high = mod-below _ }
+add-elements a b = record { low = add-below (a .c0) (b .c0); high = add-below (a .c1) (b .c1) }
 
 pub sub-elements : (a b : Pair) → Elements (subPair a b)
-sub-elements a b = record { low = mod-below _; high = mod-below _ }
+sub-elements a b = record { low = sub-below (a .c0) (b .c0); high = sub-below (a .c1) (b .c1) }
 
 pub mul-elements : (a b : Pair) → Elements (mulPair a b)
 mul-elements a b = record { low = mod-below _; high = mod-below _ }

@@ -11,6 +11,7 @@ p = 2 ^ 64 - 2 ^ 32 + 1
 abbrev pub addF : ℕ → ℕ → ℕ
 addF a b = (a + b) % p
 
+-- a less b, for b below p
 abbrev pub subF : ℕ → ℕ → ℕ
 subF a b = (a + (p - b)) % p
 

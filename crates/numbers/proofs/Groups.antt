@@ -60,6 +60,20 @@ pub width-most : (v : ℕ) → widthOf v ≤ 10
 unfolding widthOf
 width-most v = groups-most 10 v
 
+groups-least : (k n v : ℕ) → v < 128 ^ suc n → groupsIn k v ≤ suc n
+unfolding groupsIn
+groups-least zero n v h = omega arith
+groups-least (suc k) zero v h = omega (arith, groups-last k v (omega arith))
+groups-least (suc k) (suc n) v h =
+    ⊎-elim (λ l. omega (arith, groups-last k v l))
+    (λ l. omega (arith, groups-more k v l, groups-least k n (v / 128) (omega (arith, pow-suc 128 (suc n)))))
+    (below? v 128)
+
+-- "shortest form": a number that n + 1 groups of seven bits hold takes no more bytes
+pub width-least : (n v : ℕ) → v < 128 ^ suc n → widthOf v ≤ suc n
+unfolding widthOf
+width-least n v h = groups-least 10 n v h
+
 -- one byte more changes nothing, where the number has room
 enough : (k v : ℕ) → v < 128 ^ suc k → bytesIn (suc k) v ≡ bytesIn (suc (suc k)) v
 enough zero v h = bytes-last 0 v (omega arith) ∙ sym (bytes-last 1 v (omega arith))
