@@ -1,0 +1,15 @@
+use Rattle.trace.proofs.CircuitEvaluation.in_order.Statement.{statement}
+use Rattle.trace.proofs.CircuitEvaluation.in_order.Tie as tie
+use Rattle.trace.proofs.CircuitEvaluation.in_order.Reads as reads
+use Rattle.trace.proofs.CircuitEvaluation.in_order.Lts as lts
+
+-- src/state.rt:97:13
+returns : tie.Need-returns
+returns c = ?
+
+-- src/state.rt:93:5
+returns-2 : tie.Need-returns-2
+returns-2 c = ?
+
+pub in-order-spec : {M : Type 1} → statement M
+in-order-spec = tie.close (tie.spec returns returns-2)

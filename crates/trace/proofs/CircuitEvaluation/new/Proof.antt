@@ -1,0 +1,61 @@
+use borrow.Author.Needs.{needs}
+use Rattle.trace.proofs.CircuitEvaluation.new.Statement.{statement}
+use Rattle.trace.proofs.CircuitEvaluation.new.Tie as tie
+use Rattle.trace.proofs.CircuitEvaluation.new.Reads as reads
+use Rattle.trace.proofs.CircuitEvaluation.new.Lts as lts
+use Rattle.trace.proofs.state.has_room.Reads as has-room-reads
+use Rattle.trace.proofs.state.test_counts.Reads as test-counts-reads
+
+-- src/lib.rt:104:13
+test-counts-requires : tie.Need-test-counts-requires
+test-counts-requires c κs = search needs
+
+-- src/lib.rt:105:32
+enum-known-tested : tie.Need-enum-known-tested
+enum-known-tested c = search needs
+
+-- src/lib.rt:106:13
+returns : tie.Need-returns
+returns c = ?
+
+enum-told : tie.Need-enum-told
+enum-told c = search needs
+
+-- src/lib.rt:108:13
+has-room-requires : tie.Need-has-room-requires
+has-room-requires c κs = search needs
+
+-- src/lib.rt:109:13
+returns-2 : tie.Need-returns-2
+returns-2 c = ?
+
+-- src/lib.rt:118:22
+mul-t17 : tie.Need-mul-t17
+mul-t17 c = search needs
+
+-- src/lib.rt:118:22
+add-t19 : tie.Need-add-t19
+add-t19 c = search needs
+
+-- src/lib.rt:118:22
+sub-t20 : tie.Need-sub-t20
+sub-t20 c = ?
+
+-- src/lib.rt:93:5
+returns-3 : tie.Need-returns-3
+returns-3 c = ?
+
+pub new-spec : {M : Type 1} → statement M
+new-spec =
+    tie.close
+    (tie.spec
+    test-counts-requires
+    enum-known-tested
+    returns
+    enum-told
+    has-room-requires
+    returns-2
+    mul-t17
+    add-t19
+    sub-t20
+    returns-3)

@@ -1,0 +1,109 @@
+use borrow.Author.Needs.{needs}
+use Rattle.trace.proofs.CircuitEvaluation.output_value.Statement.{statement}
+use Rattle.trace.proofs.CircuitEvaluation.output_value.Tie as tie
+use Rattle.trace.proofs.CircuitEvaluation.output_value.Reads as reads
+use Rattle.trace.proofs.CircuitEvaluation.output_value.Lts as lts
+use Rattle.trace.proofs.CircuitEvaluation.is_sound.Reads as is-sound-reads
+use Rattle.trace.proofs.CircuitEvaluation.made.Reads as made-reads
+use Rattle.trace.proofs.CircuitEvaluation.num_wires.Reads as num-wires-reads
+use Rattle.trace.proofs.state.has_room.Reads as has-room-reads
+
+-- src/lib.rt:184:13
+is-sound-requires : tie.Need-is-sound-requires
+is-sound-requires c κs = search needs
+
+-- src/lib.rt:185:13
+returns : tie.Need-returns
+returns c = ?
+
+-- src/lib.rt:187:13
+has-room-requires : tie.Need-has-room-requires
+has-room-requires c κs = search needs
+
+-- src/lib.rt:194:13
+returns-2 : tie.Need-returns-2
+returns-2 c = ?
+
+-- src/lib.rt:196:13
+num-wires-requires : tie.Need-num-wires-requires
+num-wires-requires c κs = search needs
+
+-- src/lib.rt:197:12
+made-requires : tie.Need-made-requires
+made-requires c κs = search needs
+
+-- src/lib.rt:198:13
+returns-3 : tie.Need-returns-3
+returns-3 c = ?
+
+-- src/lib.rt:200:24
+sub-if4 : tie.Need-sub-if4
+sub-if4 c = ?
+
+-- src/lib.rt:200:19
+mul-if4 : tie.Need-mul-if4
+mul-if4 c = search needs
+
+-- src/lib.rt:200:12
+mul-if4-2 : tie.Need-mul-if4-2
+mul-if4-2 c = search needs
+
+-- src/lib.rt:200:12
+shared-slice-read-if4 : tie.Need-shared-slice-read-if4
+shared-slice-read-if4 c = ?
+
+-- src/lib.rt:201:13
+returns-4 : tie.Need-returns-4
+returns-4 c = ?
+
+-- src/lib.rt:203:24
+sub-if5 : tie.Need-sub-if5
+sub-if5 c = ?
+
+-- src/lib.rt:203:19
+mul-if5 : tie.Need-mul-if5
+mul-if5 c = search needs
+
+-- src/lib.rt:203:19
+add-if5 : tie.Need-add-if5
+add-if5 c = search needs
+
+-- src/lib.rt:203:12
+mul-if5-2 : tie.Need-mul-if5-2
+mul-if5-2 c = search needs
+
+-- src/lib.rt:203:12
+shared-slice-read-if5 : tie.Need-shared-slice-read-if5
+shared-slice-read-if5 c = ?
+
+-- src/lib.rt:204:13
+returns-5 : tie.Need-returns-5
+returns-5 c = ?
+
+-- src/lib.rt:181:5
+returns-6 : tie.Need-returns-6
+returns-6 c = ?
+
+pub output-value-spec : {M : Type 1} → statement M
+output-value-spec =
+    tie.close
+    (tie.spec
+    is-sound-requires
+    returns
+    has-room-requires
+    returns-2
+    num-wires-requires
+    made-requires
+    returns-3
+    sub-if4
+    mul-if4
+    mul-if4-2
+    shared-slice-read-if4
+    returns-4
+    sub-if5
+    mul-if5
+    add-if5
+    mul-if5-2
+    shared-slice-read-if5
+    returns-5
+    returns-6)

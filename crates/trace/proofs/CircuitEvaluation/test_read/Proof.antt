@@ -1,0 +1,53 @@
+use borrow.Author.Needs.{needs}
+use Rattle.trace.proofs.CircuitEvaluation.test_read.Statement.{statement}
+use Rattle.trace.proofs.CircuitEvaluation.test_read.Tie as tie
+use Rattle.trace.proofs.CircuitEvaluation.test_read.Reads as reads
+use Rattle.trace.proofs.CircuitEvaluation.test_read.Lts as lts
+use Rattle.trace.proofs.CircuitEvaluation.is_sound.Reads as is-sound-reads
+use Rattle.trace.proofs.state.first_over.Reads as first-over-reads
+use Rattle.trace.proofs.state.has_room.Reads as has-room-reads
+
+-- src/state.rt:132:13
+is-sound-requires : tie.Need-is-sound-requires
+is-sound-requires c κs = search needs
+
+-- src/state.rt:133:13
+returns : tie.Need-returns
+returns c = ?
+
+-- src/state.rt:136:13
+returns-2 : tie.Need-returns-2
+returns-2 c = ?
+
+-- src/state.rt:138:13
+has-room-requires : tie.Need-has-room-requires
+has-room-requires c κs = search needs
+
+-- src/state.rt:139:13
+returns-3 : tie.Need-returns-3
+returns-3 c = ?
+
+-- src/state.rt:141:13
+first-over-requires : tie.Need-first-over-requires
+first-over-requires c κs = search needs
+
+-- src/state.rt:143:13
+returns-4 : tie.Need-returns-4
+returns-4 c = ?
+
+-- src/state.rt:122:5
+returns-5 : tie.Need-returns-5
+returns-5 c = ?
+
+pub test-read-spec : {M : Type 1} → statement M
+test-read-spec =
+    tie.close
+    (tie.spec
+    is-sound-requires
+    returns
+    returns-2
+    has-room-requires
+    returns-3
+    first-over-requires
+    returns-4
+    returns-5)

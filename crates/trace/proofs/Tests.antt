@@ -1,0 +1,129 @@
+-- What the tests say of the numbers, both ways.
+-- Assumes nothing.
+use mathlib.Core.Path.{_≡_, refl, sym, ap, _∙_}
+use mathlib.Core.Bool.{Bool, true, false, cond, _&&_, _||_}
+use mathlib.Core.List.{List, [], _∷_}
+use mathlib.Core.Logic.{_⊎_, ⊎-elim, inl, inr}
+use Prim.Native.Nat.{ℕ, _+_, _*_, _≤_, _<_}
+use native.Mathlib.Omega.{arith}
+use lib.Dec.{ltb, leb, eqb}
+use lib.ListN.{length}
+use borrow.Author.Tests.{ltb-true, leb-true, eqb-true, ltb-false, eqb-false, lt-ltb, le-ltb, le-leb, lt-leb, eq-eqb, ne-eqb}
+use Rattle.field.specs.Told.{Told, accepted, refused}
+use Rattle.field.specs.Field.{p}
+use Rattle.trace.specs.declared.CircuitEvaluation.{CircuitEvaluation}
+use Rattle.trace.specs.Counts.{mostWires, wires, ofCounts, nodeCells, room, withRoom}
+use Rattle.trace.specs.State.{wiresOf, madeOf, nextId, isAccepted, sound, readTurn, evalTurn, inTurn}
+use Rattle.trace.specs.Outcome.{Lent, lent, fits}
+
+-- booleans
+pub both : (a b : Bool) → (a && b) ≡ true → (a ≡ true) × (b ≡ true)
+both true b e = (refl, e)
+both false b e = (e, let z : _≡_ {A = ℕ} 0 1 = cc in absurd (omega arith))
+
+pub both-hold : (a b : Bool) → a ≡ true → b ≡ true → (a && b) ≡ true
+both-hold true b e f = f
+both-hold false b e f = e
+
+either : (a b : Bool) → (a || b) ≡ true → (a ≡ true) ⊎ (b ≡ true)
+either true b e = inl refl
+either false b e = inr e
+
+either-holds : (a b : Bool) → (a ≡ true) ⊎ (b ≡ true) → (a || b) ≡ true
+either-holds true b e = refl
+either-holds false b e = ⊎-elim (λ f. cc) (λ f. f) e
+
+-- a test that lets pass
+pub passes : (b : Bool) (t : Told) (number place : ℕ) (vs : List ℕ) → cond b t (refused number place) ≡ accepted vs → (b ≡ true) × (t ≡ accepted vs)
+passes true t n k vs e = (refl, e)
+passes false t n k vs e = let z : _≡_ {A = ℕ} 0 1 = cc in absurd (omega arith)
+
+pub stops : (b : Bool) (t : Told) (number place : ℕ) (vs : List ℕ) → cond b (refused number place) t ≡ accepted vs → (b ≡ false) × (t ≡ accepted vs)
+stops false t n k vs e = (refl, e)
+stops true t n k vs e = let z : _≡_ {A = ℕ} 0 1 = cc in absurd (omega arith)
+
+-- counts that opening accepts
+pub record Counts (most num-read num-eval : ℕ) : Type 0 where
+  pub few : wires num-read num-eval ≤ most
+  pub reads : 0 < num-read
+  pub evals : 0 < num-eval
+
+pub counts-of : (most num-read num-eval : ℕ) (t : Told) (vs : List ℕ) → ofCounts most num-read num-eval t ≡ accepted vs → Counts most num-read num-eval × (t ≡ accepted vs)
+unfolding ofCounts
+counts-of most r e t vs q =
+    let a = stops (ltb most (wires r e)) _ 1 0 vs q in
+    let b = stops (eqb r 0) _ 2 0 vs (a .1) in
+    let d = stops (eqb e 0) _ 3 0 vs (b .1) in
+    let n₁ = ltb-false _ _ (a .0) in
+    let n₂ = eqb-false _ _ (b .0) in
+    let n₃ = eqb-false _ _ (d .0) in
+    (record { few = n₁; reads = omega arith; evals = omega arith }, d .1)
+
+pub counts-pass : (most num-read num-eval : ℕ) (t : Told) → Counts most num-read num-eval → ofCounts most num-read num-eval t ≡ t
+unfolding ofCounts
+counts-pass most r e t h =
+    let n₂ : (r ≡ 0 → ⊥) = λ q. let i = h .reads in omega arith in
+    let n₃ : (e ≡ 0 → ⊥) = λ q. let i = h .evals in omega arith in
+    rw (le-ltb most (wires r e) (h .few), ne-eqb r 0 n₂, ne-eqb e 0 n₃)
+
+told-accepted : (t : Told) → isAccepted t ≡ true → (vs : List ℕ) × (t ≡ accepted vs)
+told-accepted (accepted vs) e = (vs, refl)
+told-accepted (refused n k) e = let z : _≡_ {A = ℕ} 0 1 = cc in absurd (omega arith)
+
+-- a state that opening and accepted steps give
+pub record Sound (s : CircuitEvaluation) : Type 0 where
+  pub counts : Counts mostWires (s .«num_read») (s .«num_eval»)
+  pub reads-end : s .«reads_done» ≤ s .«num_read»
+  pub evals-end : s .«evals_done» ≤ s .«num_eval»
+  pub order : (s .«evals_done» ≡ 0) ⊎ (s .«reads_done» ≡ s .«num_read»)
+  pub next : s .«id_next» ≡ nextId (wiresOf s) (madeOf s)
+
+pub sound-of : (s : CircuitEvaluation) → sound s ≡ true → Sound s
+unfolding sound
+sound-of s e =
+    let a = both _ _ e in
+    let b = both _ _ (a .1) in
+    let d = both _ _ (b .1) in
+    let f = both _ _ (d .1) in
+    let g = told-accepted _ (a .0) in
+    record {
+      counts = counts-of _ _ _ _ _ (g .1) .0;
+      reads-end = leb-true _ _ (b .0);
+      evals-end = leb-true _ _ (d .0);
+      order = ⊎-elim (λ q. inl (eqb-true _ _ q)) (λ q. inr (eqb-true _ _ q)) (either _ _ (f .0));
+      next = eqb-true _ _ (f .1);
+    }
+
+pub sound-is : (s : CircuitEvaluation) → Sound s → sound s ≡ true
+unfolding sound
+sound-is s h =
+    both-hold _ _ (ap isAccepted (counts-pass _ _ _ _ (h .counts)))
+    (both-hold _ _ (le-leb _ _ (h .reads-end))
+    (both-hold _ _ (le-leb _ _ (h .evals-end))
+    (both-hold _ _ (either-holds _ _ (⊎-elim (λ q. inl (eq-eqb _ _ q)) (λ q. inr (eq-eqb _ _ q)) (h .order)))
+    (eq-eqb _ _ (h .next)))))
+
+-- whose turn it is
+pub read-turn-of : (s : CircuitEvaluation) → readTurn s ≡ true → Sound s × (s .«reads_done» < s .«num_read»)
+unfolding readTurn
+read-turn-of s e = let a = both _ _ e in (sound-of s (a .0), ltb-true _ _ (a .1))
+
+pub eval-turn-of : (s : CircuitEvaluation) → evalTurn s ≡ true → Sound s × (s .«reads_done» ≡ s .«num_read») × (s .«evals_done» < s .«num_eval»)
+unfolding evalTurn
+eval-turn-of s e =
+    let a = both _ _ e in
+    let b = both _ _ (a .1) in
+    (sound-of s (a .0), eqb-true _ _ (b .0), ltb-true _ _ (b .1))
+
+-- room for the whole circuit
+pub record Fits (num-read num-eval values counts nodes : ℕ) : Type 0 where
+  pub for-values : 2 * wires num-read num-eval ≤ values
+  pub for-counts : wires num-read num-eval ≤ counts
+  pub for-nodes : nodeCells num-read num-eval ≤ nodes
+
+pub room-of : (num-read num-eval values counts nodes : ℕ) → room num-read num-eval values counts nodes ≡ true → Fits num-read num-eval values counts nodes
+unfolding room
+room-of r e lv lc ln q =
+    let a = both _ _ q in
+    let b = both _ _ (a .1) in
+    record { for-values = leb-true _ _ (a .0); for-counts = leb-true _ _ (b .0); for-nodes = leb-true _ _ (b .1) }

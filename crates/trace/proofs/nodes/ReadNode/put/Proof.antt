@@ -1,0 +1,140 @@
+use borrow.Author.Needs.{needs}
+use Rattle.trace.proofs.nodes.ReadNode.put.Statement.{statement}
+use Rattle.trace.proofs.nodes.ReadNode.put.Tie as tie
+use Rattle.trace.proofs.nodes.ReadNode.put.Reads as reads
+use Rattle.trace.proofs.nodes.ReadNode.put.Lts as lts
+
+-- src/nodes.rt:33:9
+mul-nodes : tie.Need-mul-nodes
+mul-nodes c = search needs
+
+-- src/nodes.rt:33:9
+slice-write-nodes : tie.Need-slice-write-nodes
+slice-write-nodes c = search needs
+
+-- src/nodes.rt:34:15
+add-nodes : tie.Need-add-nodes
+add-nodes c = search needs
+
+-- src/nodes.rt:34:9
+mul-nodes-2 : tie.Need-mul-nodes-2
+mul-nodes-2 c = search needs
+
+-- src/nodes.rt:34:9
+slice-write-nodes-2 : tie.Need-slice-write-nodes-2
+slice-write-nodes-2 c = ?
+
+-- src/nodes.rt:35:25
+element-copy-out-nodes : tie.Need-element-copy-out-nodes
+element-copy-out-nodes c = search needs
+
+-- src/nodes.rt:35:15
+add-nodes-2 : tie.Need-add-nodes-2
+add-nodes-2 c = search needs
+
+-- src/nodes.rt:35:9
+mul-nodes-3 : tie.Need-mul-nodes-3
+mul-nodes-3 c = search needs
+
+-- src/nodes.rt:35:9
+slice-write-nodes-3 : tie.Need-slice-write-nodes-3
+slice-write-nodes-3 c = ?
+
+-- src/nodes.rt:36:25
+element-copy-out-nodes-2 : tie.Need-element-copy-out-nodes-2
+element-copy-out-nodes-2 c = search needs
+
+-- src/nodes.rt:36:15
+add-nodes-3 : tie.Need-add-nodes-3
+add-nodes-3 c = search needs
+
+-- src/nodes.rt:36:9
+mul-nodes-4 : tie.Need-mul-nodes-4
+mul-nodes-4 c = search needs
+
+-- src/nodes.rt:36:9
+slice-write-nodes-4 : tie.Need-slice-write-nodes-4
+slice-write-nodes-4 c = ?
+
+-- src/nodes.rt:37:15
+add-nodes-4 : tie.Need-add-nodes-4
+add-nodes-4 c = search needs
+
+-- src/nodes.rt:37:9
+mul-nodes-5 : tie.Need-mul-nodes-5
+mul-nodes-5 c = search needs
+
+-- src/nodes.rt:37:9
+slice-write-nodes-5 : tie.Need-slice-write-nodes-5
+slice-write-nodes-5 c = ?
+
+-- src/nodes.rt:38:25
+element-copy-out-nodes-3 : tie.Need-element-copy-out-nodes-3
+element-copy-out-nodes-3 c = search needs
+
+-- src/nodes.rt:38:15
+add-nodes-5 : tie.Need-add-nodes-5
+add-nodes-5 c = search needs
+
+-- src/nodes.rt:38:9
+mul-nodes-6 : tie.Need-mul-nodes-6
+mul-nodes-6 c = search needs
+
+-- src/nodes.rt:38:9
+slice-write-nodes-6 : tie.Need-slice-write-nodes-6
+slice-write-nodes-6 c = ?
+
+-- src/nodes.rt:39:25
+element-copy-out-nodes-4 : tie.Need-element-copy-out-nodes-4
+element-copy-out-nodes-4 c = search needs
+
+-- src/nodes.rt:39:15
+add-nodes-6 : tie.Need-add-nodes-6
+add-nodes-6 c = search needs
+
+-- src/nodes.rt:39:9
+mul-nodes-7 : tie.Need-mul-nodes-7
+mul-nodes-7 c = search needs
+
+-- src/nodes.rt:39:9
+slice-write-nodes-7 : tie.Need-slice-write-nodes-7
+slice-write-nodes-7 c = ?
+
+-- src/nodes.rt:29:5
+same-length : tie.Need-same-length
+same-length c = ?
+
+-- src/nodes.rt:29:5
+returns : tie.Need-returns
+returns c = ?
+
+pub put-spec : {M : Type 1} → statement M
+put-spec =
+    tie.close
+    (tie.spec
+    mul-nodes
+    slice-write-nodes
+    add-nodes
+    mul-nodes-2
+    slice-write-nodes-2
+    element-copy-out-nodes
+    add-nodes-2
+    mul-nodes-3
+    slice-write-nodes-3
+    element-copy-out-nodes-2
+    add-nodes-3
+    mul-nodes-4
+    slice-write-nodes-4
+    add-nodes-4
+    mul-nodes-5
+    slice-write-nodes-5
+    element-copy-out-nodes-3
+    add-nodes-5
+    mul-nodes-6
+    slice-write-nodes-6
+    element-copy-out-nodes-4
+    add-nodes-6
+    mul-nodes-7
+    slice-write-nodes-7
+    same-length
+    returns)

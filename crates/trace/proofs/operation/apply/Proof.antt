@@ -1,0 +1,74 @@
+use borrow.Author.Needs.{needs}
+use Rattle.trace.proofs.operation.apply.Statement.{statement}
+use Rattle.trace.proofs.operation.apply.Tie as tie
+use Rattle.trace.proofs.operation.apply.Reads as reads
+use Rattle.trace.proofs.operation.apply.Lts as lts
+use Rattle.field.proofs.quad.add.Reads as add-reads
+use Rattle.field.proofs.quad.mul.Reads as mul-reads
+use Rattle.field.proofs.quad.sub.Reads as sub-reads
+use Rattle.trace.proofs.operation.value.Reads as value-reads
+
+-- src/operation.rt:21:26
+enum-told : tie.Need-enum-told
+enum-told c = search needs
+
+-- src/operation.rt:21:26
+sub-requires : tie.Need-sub-requires
+sub-requires c κs = search needs
+
+-- src/operation.rt:21:20
+value-requires : tie.Need-value-requires
+value-requires c κs = search needs
+
+-- src/operation.rt:22:26
+enum-told-2 : tie.Need-enum-told-2
+enum-told-2 c = search needs
+
+-- src/operation.rt:22:26
+mul-requires : tie.Need-mul-requires
+mul-requires c κs = search needs
+
+-- src/operation.rt:22:20
+value-requires-2 : tie.Need-value-requires-2
+value-requires-2 c κs = search needs
+
+-- src/operation.rt:23:26
+enum-told-3 : tie.Need-enum-told-3
+enum-told-3 c = search needs
+
+-- src/operation.rt:23:26
+add-requires : tie.Need-add-requires
+add-requires c κs = search needs
+
+-- src/operation.rt:23:20
+value-requires-3 : tie.Need-value-requires-3
+value-requires-3 c κs = search needs
+
+-- src/operation.rt:16:1
+returns : tie.Need-returns
+returns c = ?
+
+-- src/operation.rt:16:1
+returns-2 : tie.Need-returns-2
+returns-2 c = ?
+
+-- src/operation.rt:16:1
+returns-3 : tie.Need-returns-3
+returns-3 c = ?
+
+pub apply-spec : {M : Type 1} → statement M
+apply-spec =
+    tie.close
+    (tie.spec
+    enum-told
+    sub-requires
+    value-requires
+    enum-told-2
+    mul-requires
+    value-requires-2
+    enum-told-3
+    add-requires
+    value-requires-3
+    returns
+    returns-2
+    returns-3)

@@ -1,0 +1,9 @@
+pub mod Counts
+pub mod State
+pub mod Open
+pub mod Outcome
+pub mod Read
+pub mod Eval
+pub mod Output
+pub mod Inside
+pub mod Calls

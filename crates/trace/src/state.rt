@@ -1,0 +1,190 @@
+// What a state and the lent buffers are tested for before a step.
+ghost use mathlib.Core.Path.{_≡_};
+ghost use mathlib.Core.List.{[], _∷_};
+ghost use mathlib.Core.Bool.{_||_};
+ghost use lib.Dec.{eqb};
+ghost use Prim.Native.Nat.{_≤_, _<_};
+ghost use Rattle.field.specs.Told.{accepted};
+ghost use Rattle.field.specs.Field.{p, firstOver};
+ghost use Rattle.field.specs.Answer.{ofElements};
+ghost use Rattle.trace.specs.Counts.{mostWires, ofCounts, room};
+ghost use Rattle.trace.specs.State.{wiresOf, madeOf, nextId, sound, readTurn, evalTurn};
+ghost use Rattle.trace.specs.Read.{readTests, readHanded};
+ghost use Rattle.trace.specs.Eval.{evalTests};
+ghost use Rattle.trace.specs.Inside.{testedTold};
+use crate::BAD_EVAL_COUNT;
+use crate::BAD_READ_COUNT;
+use crate::CircuitEvaluation;
+use crate::MAX_EVAL_CIRCUIT_WIRES;
+use crate::OUT_OF_TURN;
+use crate::SHORT_BUFFER;
+use crate::TOO_MANY_WIRES;
+use crate::Tested;
+use field::NOT_ELEMENT;
+use field::P;
+
+pub fn test_counts(num_read: u32, num_eval: u32) -> Tested
+    ensures { λ r. ⌜ testedTold r ≡ ofCounts mostWires «num_read» «num_eval» (accepted []) ⌝ }
+{
+    if (MAX_EVAL_CIRCUIT_WIRES as u64) < 2 * num_read as u64 + num_eval as u64 {
+        return Tested::Refused(TOO_MANY_WIRES, 0);
+    }
+    if num_read == 0 {
+        return Tested::Refused(BAD_READ_COUNT, 0);
+    }
+    if num_eval == 0 {
+        return Tested::Refused(BAD_EVAL_COUNT, 0);
+    }
+    Tested::Passed
+}
+
+// Whether buffers of these lengths hold the whole circuit.
+pub fn has_room(num_read: u32, num_eval: u32, values: usize, counts: usize, nodes: usize) -> bool
+    ensures { λ r. ⌜ r ≡ room «num_read» «num_eval» values counts nodes ⌝ }
+{
+    let reads = num_read as usize;
+    let evals = num_eval as usize;
+    let num_wires = 2 * reads + evals;
+    if values < 2 * num_wires {
+        return false;
+    }
+    if counts < num_wires {
+        return false;
+    }
+    7 * reads + 11 * evals <= nodes
+}
+
+// The first of the numbers handed to a READ step that is p or more, the pointer being last.
+fn first_over(ptr: u64, word: [[u64; 2]; 2]) -> u64
+    ensures { λ r. ⌜ r ≡ firstOver (readHanded ptr word) ⌝ }
+{
+    if P <= word[0][0] {
+        return 0;
+    }
+    if P <= word[0][1] {
+        return 1;
+    }
+    if P <= word[1][0] {
+        return 2;
+    }
+    if P <= word[1][1] {
+        return 3;
+    }
+    if P <= ptr {
+        return 4;
+    }
+    5
+}
+
+impl CircuitEvaluation {
+    pub fn num_wires(self) -> usize
+        ensures { λ r. ⌜ r ≡ wiresOf self ⌝ }
+    {
+        2 * self.num_read as usize + self.num_eval as usize
+    }
+
+    pub fn made(self) -> usize
+        ensures { λ r. ⌜ r ≡ madeOf self ⌝ }
+    {
+        2 * self.reads_done as usize + self.evals_done as usize
+    }
+
+    // "All READ steps come before the EVAL steps."
+    fn in_order(self) -> bool
+        ensures { λ r. ⌜ r ≡ (eqb (self .«evals_done») 0 || eqb (self .«reads_done») (self .«num_read»)) ⌝ }
+    {
+        if self.evals_done == 0 {
+            return true;
+        }
+        self.reads_done == self.num_read
+    }
+
+    // "Counts opening would accept, steps done not past their end, id_next as they say."
+    pub fn is_sound(self) -> bool
+        ensures { λ r. ⌜ r ≡ sound self ⌝ }
+    {
+        let Tested::Passed = test_counts(self.num_read, self.num_eval) else {
+            return false;
+        };
+        if self.num_read < self.reads_done {
+            return false;
+        }
+        if self.num_eval < self.evals_done {
+            return false;
+        }
+        if !self.in_order() {
+            return false;
+        }
+        self.id_next == next_id(self.num_wires() as u64, self.made() as u64)
+    }
+
+    // "A step refuses in the order 13, 6, 7."
+    pub fn test_read(
+        self,
+        ptr: u64,
+        word: [[u64; 2]; 2],
+        values: usize,
+        counts: usize,
+        nodes: usize,
+    ) -> Tested
+        ensures { λ r. ⌜ testedTold r ≡ readTests self (room (self .«num_read») (self .«num_eval») values counts nodes) ptr word ⌝ }
+    {
+        if !self.is_sound() {
+            return Tested::Refused(OUT_OF_TURN, 0);
+        }
+        if self.num_read <= self.reads_done {
+            return Tested::Refused(OUT_OF_TURN, 0);
+        }
+        if !has_room(self.num_read, self.num_eval, values, counts, nodes) {
+            return Tested::Refused(SHORT_BUFFER, 0);
+        }
+        let place = first_over(ptr, word);
+        if place < 5 {
+            return Tested::Refused(NOT_ELEMENT, place);
+        }
+        Tested::Passed
+    }
+
+    pub fn test_eval(
+        self,
+        ptr: u64,
+        instruction: u64,
+        values: usize,
+        counts: usize,
+        nodes: usize,
+    ) -> Tested
+        ensures { λ r. ⌜ testedTold r ≡ evalTests self (room (self .«num_read») (self .«num_eval») values counts nodes) ptr instruction ⌝ }
+    {
+        if !self.is_sound() {
+            return Tested::Refused(OUT_OF_TURN, 0);
+        }
+        if self.reads_done != self.num_read {
+            return Tested::Refused(OUT_OF_TURN, 0);
+        }
+        if self.num_eval <= self.evals_done {
+            return Tested::Refused(OUT_OF_TURN, 0);
+        }
+        if !has_room(self.num_read, self.num_eval, values, counts, nodes) {
+            return Tested::Refused(SHORT_BUFFER, 0);
+        }
+        if P <= instruction {
+            return Tested::Refused(NOT_ELEMENT, 0);
+        }
+        if P <= ptr {
+            return Tested::Refused(NOT_ELEMENT, 1);
+        }
+        Tested::Passed
+    }
+}
+
+// The id of the wire that is made after so many others; after the last it is 0 - 1.
+fn next_id(num_wires: u64, made: u64) -> u64
+    requires { ⌜ (made ≤ «num_wires») × («num_wires» < p) ⌝ }
+    ensures { λ r. ⌜ r ≡ nextId «num_wires» made ⌝ }
+{
+    if made < num_wires {
+        num_wires - 1 - made
+    } else {
+        P - 1
+    }
+}
