@@ -1,1 +1,3 @@
+pub mod Choices
 pub mod Tests
+pub mod StepTests

@@ -1,3 +1,7 @@
+use Rattle.trace.proofs.StepTests.{output-unsound, output-short, output-early, first-not-zero, second-not-zero, output-zero}
+use borrow.Author.Tests.{not-true, not-false}
+use native.Mathlib.Omega.{arith}
+use mathlib.Core.Path.{sym, ap, _∙_}
 use borrow.Author.Needs.{needs}
 use Rattle.trace.proofs.CircuitEvaluation.output_value.Statement.{statement}
 use Rattle.trace.proofs.CircuitEvaluation.output_value.Tie as tie
@@ -14,7 +18,7 @@ is-sound-requires c κs = search needs
 
 -- src/lib.rt:185:13
 returns : tie.Need-returns
-returns c = ?
+returns c = output-unsound _ _ (sym (c .before .is-sound .ensures) ∙ not-true _ (c .if1 .taken))
 
 -- src/lib.rt:187:13
 has-room-requires : tie.Need-has-room-requires
@@ -22,7 +26,7 @@ has-room-requires c κs = search needs
 
 -- src/lib.rt:194:13
 returns-2 : tie.Need-returns-2
-returns-2 c = ?
+returns-2 c = output-short _ _ (sym (c .before .before .before .is-sound .ensures) ∙ not-false _ (c .before .before .if1 .left)) (sym (c .before .has-room .ensures) ∙ not-true _ (c .if2 .taken))
 
 -- src/lib.rt:196:13
 num-wires-requires : tie.Need-num-wires-requires
@@ -34,7 +38,7 @@ made-requires c κs = search needs
 
 -- src/lib.rt:198:13
 returns-3 : tie.Need-returns-3
-returns-3 c = ?
+returns-3 c = output-early _ _ (sym (c .before .before .before .before .before .before .is-sound .ensures) ∙ not-false _ (c .before .before .before .before .before .if1 .left)) (sym (c .before .before .before .before .has-room .ensures) ∙ not-false _ (c .before .before .before .if2 .left)) (search needs)
 
 -- src/lib.rt:200:24
 sub-if4 : tie.Need-sub-if4

@@ -1,3 +1,6 @@
+use Rattle.trace.specs.Inside.{valueTold}
+use Rattle.field.specs.Answer.{quadTold}
+use mathlib.Core.Path.{ap, sym}
 use borrow.Author.Needs.{needs}
 use Rattle.trace.proofs.operation.value.Statement.{statement}
 use Rattle.trace.proofs.operation.value.Tie as tie
