@@ -12,10 +12,10 @@ use Rattle.field.specs.Told.{Told, accepted, refused}
 use Rattle.field.specs.Field.{p}
 use Rattle.field.specs.Answer.{ofElements}
 use Rattle.trace.specs.declared.CircuitEvaluation.{CircuitEvaluation}
-use Rattle.trace.specs.Counts.{mostWires, ofCounts, withRoom}
-use Rattle.trace.specs.State.{wiresOf, madeOf, sound, readTurn, evalTurn}
+use Rattle.trace.specs.Counts.{mostWires, wires, ofCounts}
+use Rattle.trace.specs.State.{wiresOf, madeOf, nextId, sound, readTurn, evalTurn}
 use Rattle.trace.specs.Outcome.{Lent, fits, valueAt}
-use Rattle.trace.specs.Open.{opened, numbersOf, openAnswer}
+use Rattle.trace.specs.Open.{opened, openAnswer}
 use Rattle.trace.specs.Read.{readHanded, readTests}
 use Rattle.trace.specs.Eval.{evalTests, position, isMade, storedAnswer, operandAnswer}
 use Rattle.trace.specs.Output.{headerNumbers, headerOf, isZero, outputAnswer}
@@ -125,9 +125,10 @@ module _ (ctx clk num-read num-eval : ℕ) (b : Lent) where
     unfolding openAnswer
     open-short f = sym (counts-pass _ _ _ _ (counts-of _ _ _ _ _ (sym h) .0) ∙ rw f)
 
-    pub open-opened : fits state b ≡ true → accepted (numbersOf state) ≡ openAnswer ctx clk num-read num-eval b
+    pub open-opened : (id : ℕ) → fits state b ≡ true → id ≡ nextId (wires num-read num-eval) 0
+        → accepted (ctx ∷ clk ∷ num-read ∷ num-eval ∷ 0 ∷ 0 ∷ id ∷ []) ≡ openAnswer ctx clk num-read num-eval b
     unfolding openAnswer
-    open-opened f = sym (counts-pass _ _ _ _ (counts-of _ _ _ _ _ (sym h) .0) ∙ rw f)
+    open-opened id f e = sym (counts-pass _ _ _ _ (counts-of _ _ _ _ _ (sym h) .0) ∙ rw (f, ← e))
 
 -- the result
 module _ (s : CircuitEvaluation) (b : Lent) where
@@ -145,21 +146,24 @@ module _ (s : CircuitEvaluation) (b : Lent) where
       unfolding outputAnswer
       output-early n = rw (h, f, ne-eqb (madeOf s) (wiresOf s) n)
 
-      module _ (e : madeOf s ≡ wiresOf s) where
-        abbrev last : ℕ
-        last = wiresOf s - 1
-
-        not-zero : isZero (valueAt (b .values) last) ≡ false → refused 12 0 ≡ outputAnswer s b
+      module _ (n : ℕ) (e : madeOf s ≡ wiresOf s) (w : n ≡ wiresOf s) where
+        not-zero : isZero (valueAt (b .values) (n - 1)) ≡ false → refused 12 0 ≡ outputAnswer s b
         unfolding outputAnswer
-        not-zero z = rw (h, f, eq-eqb (madeOf s) (wiresOf s) e, z)
+        not-zero z = rw (h, f, eq-eqb (madeOf s) (wiresOf s) e, ← w, z)
 
-        pub first-not-zero : (getD (b .values) (2 * last) 0 ≡ 0 → ⊥) → refused 12 0 ≡ outputAnswer s b
-        first-not-zero n = not-zero (first-fails _ _ (ne-eqb _ _ n))
+        pub first-not-zero : (getD (b .values) (2 * (n - 1)) 0 ≡ 0 → ⊥) → refused 12 0 ≡ outputAnswer s b
+        first-not-zero z = not-zero (first-fails _ _ (ne-eqb _ _ z))
 
-        pub second-not-zero : (getD (b .values) (2 * last + 1) 0 ≡ 0 → ⊥) → refused 12 0 ≡ outputAnswer s b
-        second-not-zero n = not-zero (second-fails (eqb (getD (b .values) (2 * last) 0) 0) _ (ne-eqb _ _ n))
+        pub second-not-zero : (getD (b .values) (2 * (n - 1) + 1) 0 ≡ 0 → ⊥) → refused 12 0 ≡ outputAnswer s b
+        second-not-zero z = not-zero (second-fails (eqb (getD (b .values) (2 * (n - 1)) 0) 0) _ (ne-eqb _ _ z))
 
-        pub output-zero : getD (b .values) (2 * last) 0 ≡ 0 → getD (b .values) (2 * last + 1) 0 ≡ 0 → accepted (headerNumbers (headerOf s)) ≡ outputAnswer s b
+        pub output-zero : getD (b .values) (2 * (n - 1)) 0 ≡ 0 → getD (b .values) (2 * (n - 1) + 1) 0 ≡ 0 → accepted (headerNumbers (headerOf s)) ≡ outputAnswer s b
         unfolding outputAnswer
         output-zero z₀ z₁ =
-            rw (h, f, eq-eqb (madeOf s) (wiresOf s) e, both-hold (eqb (getD (b .values) (2 * last) 0) 0) (eqb (getD (b .values) (2 * last + 1) 0) 0) (eq-eqb _ _ z₀) (eq-eqb _ _ z₁))
+            rw (
+              h,
+              f,
+              eq-eqb (madeOf s) (wiresOf s) e,
+              ← w,
+              both-hold (eqb (getD (b .values) (2 * (n - 1)) 0) 0) (eqb (getD (b .values) (2 * (n - 1) + 1) 0) 0) (eq-eqb _ _ z₀) (eq-eqb _ _ z₁),
+            )

@@ -49,7 +49,10 @@ sub-t20 c = let h = counts-of _ _ _ _ _ (sym (ap testedTold (sym (c .before .bef
 
 -- src/lib.rt:93:5
 returns-3 : tie.Need-returns-3
-returns-3 c = ?
+returns-3 c = 
+    open-opened _ _ _ _ _ (ap testedTold (sym (c .before .before .enum-told .given .1)) ∙ c .before .before .before .before .test-counts .ensures) _
+    (sym (c .before .has-room .ensures) ∙ not-false _ (c .if1 .left))
+    (let h = counts-of _ _ _ _ _ (sym (ap testedTold (sym (c .before .before .enum-told .given .1)) ∙ c .before .before .before .before .test-counts .ensures)) .0 in omega arith)
 
 pub new-spec : {M : Type 1} → statement M
 new-spec =
