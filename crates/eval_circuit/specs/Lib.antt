@@ -1,0 +1,3 @@
+pub mod Circuit
+pub mod Evaluated
+pub mod Listing

@@ -1,0 +1,1 @@
+// Whole evaluation of a circuit in memory.
