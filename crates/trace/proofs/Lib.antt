@@ -1,2 +1,4 @@
 pub mod Tests
 pub mod Answers
+pub mod Stores
+pub mod Accepted
