@@ -6,3 +6,5 @@ pub mod Runs
 pub mod NextId
 pub mod Reached
 pub mod Turns
+pub mod Multiplicities
+pub mod Past
