@@ -8,3 +8,5 @@ pub mod Reached
 pub mod Turns
 pub mod Multiplicities
 pub mod Past
+pub mod Ids
+pub mod Values

@@ -57,18 +57,21 @@ calls-follow cs o =
     (f .same-values ∙ h .same-values) (f .same-counts ∙ h .same-counts) (f .same-nodes ∙ h .same-nodes))
     cs o (follows-by o o refl refl refl refl refl refl refl)
 
+-- "all READ steps come before the EVAL steps"
+pub no-gate-yet : (s : CircuitEvaluation) → Sound s → s .«reads_done» < s .«num_read» → s .«evals_done» ≡ 0
+no-gate-yet s h turn = ⊎-elim (λ (z : s .«evals_done» ≡ 0). z) (λ (r : s .«reads_done» ≡ s .«num_read»). absurd (omega arith)) (h .order)
+
 -- a sound state stays sound
 pub read-sound : (s : CircuitEvaluation) → Sound s → s .«reads_done» < s .«num_read» → Sound (readDone s)
 read-sound s h turn =
     let n = h .counts in
     let e = h .evals-end in
     let m : madeOf (readDone s) ≡ madeOf s + 2 = omega arith in
-    let z : s .«evals_done» ≡ 0 = ⊎-elim (λ (z : s .«evals_done» ≡ 0). z) (λ (r : s .«reads_done» ≡ s .«num_read»). absurd (omega arith)) (h .order) in
     record {
       counts = h .counts;
       reads-end = omega arith;
       evals-end = h .evals-end;
-      order = inl z;
+      order = inl (no-gate-yet s h turn);
       next = rw (m, h .next) (next-later (wiresOf s) (madeOf s) 2 (n .few) (omega arith) (omega arith));
     }
 

@@ -1,0 +1,139 @@
+-- Values by id: what an accepted step gives its wires, and that no call changes the value of a wire that is made.
+-- Assumes nothing.
+use mathlib.Core.Path.{_≡_, refl, sym, ap₂, _∙_}
+use mathlib.Core.List.{List, _∷_}
+use Prim.Native.Nat.{ℕ, _+_, _-_, _*_, _≤_, _<_}
+use native.Mathlib.Omega.{arith}
+use lib.Seq.{sets, length-sets}
+use Rattle.field.specs.Told.{accepted}
+use Rattle.field.specs.Pair.{cells}
+use Rattle.field.specs.Answer.{pairOf}
+use Rattle.instruction.specs.Decode.{leftId, rightId, opcode}
+use Rattle.trace.specs.declared.CircuitEvaluation.{CircuitEvaluation}
+use Rattle.trace.specs.State.{wiresOf, madeOf}
+use Rattle.trace.specs.Outcome.{Lent, Outcome, valueAt}
+use Rattle.trace.specs.Read.{firstPair, secondPair, readStep}
+use Rattle.trace.specs.Eval.{position, valueOf, combine, evalStep}
+use Rattle.trace.specs.Calls.{Call, read, eval, called, calls}
+use Rattle.trace.proofs.Stores.{value-stored, value-below}
+use Rattle.trace.proofs.Accepted.{read-accepted, eval-accepted}
+use Rattle.trace.proofs.Runs.{each-call, each-list}
+use Rattle.trace.proofs.Reached.{no-gate-yet}
+use Rattle.trace.proofs.Ids.{next-position, second-position}
+
+-- "a memory word is two pairs, first cells first": an accepted READ step stores them at the positions of the ids id_next and id_next - 1
+pub record ReadValues (s : CircuitEvaluation) (w : List (List ℕ)) (o : Outcome) : Type 0 where
+  pub first : valueOf (o .state) (s .«id_next») (o .buffers) ≡ pairOf (firstPair w)
+  pub second : valueOf (o .state) (s .«id_next» - 1) (o .buffers) ≡ pairOf (secondPair w)
+
+pub read-values : (s : CircuitEvaluation) (ptr : ℕ) (w : List (List ℕ)) (b : Lent) (us : List ℕ) → readStep s ptr w b .told ≡ accepted us → ReadValues s w (readStep s ptr w b)
+read-values s ptr w b us e =
+    let a = read-accepted s ptr w b us e in
+    let h = a .is-sound in
+    let n = a .is-sound .counts in
+    let t = a .turn in
+    let z = no-gate-yet s (a .is-sound) (a .turn) in
+    let r = a .has-room in
+    let m = madeOf s in
+    let v₀ = pairOf (firstPair w) in
+    let v₁ = pairOf (secondPair w) in
+    let vs = b .values in
+    rw (a .leaves)
+    (record {
+      first = rw (next-position s h (omega arith)) (value-below (sets vs (2 * m) (cells v₀)) (m + 1) m v₁ (omega arith) ∙ value-stored vs m v₀ (omega arith));
+      second = rw (second-position s h (omega arith)) (value-stored (sets vs (2 * m) (cells v₀)) (m + 1) v₁ (simp length-sets (omega arith)));
+    })
+
+-- "0 Sub, 1 Mul, 2 Add": an accepted EVAL step's wire has its operands' values taken together as the opcode says, at the position of the id id_next
+pub gate-value : (s : CircuitEvaluation) (ptr word : ℕ) (b : Lent) (us : List ℕ) → evalStep s ptr word b .told ≡ accepted us
+    → valueOf (evalStep s ptr word b .state) (s .«id_next») (evalStep s ptr word b .buffers) ≡ combine (opcode word) (valueOf s (leftId word) b) (valueOf s (rightId word) b)
+gate-value s ptr word b us e =
+    let a = eval-accepted s ptr word b us e in
+    let h = a .taken .is-sound in
+    let q = a .taken .all-read in
+    let t = a .taken .turn in
+    let r = a .taken .has-room in
+    rw (a .leaves, next-position s h (omega arith)) (value-stored (b .values) (madeOf s) (combine (opcode word) (valueOf s (leftId word) b) (valueOf s (rightId word) b)) (omega arith))
+
+-- ---- a wire that is made keeps its value
+
+-- the wires stay as many, those that are made stay made, and keep their values
+record Kept (o q : Outcome) : Type 0 where
+  same-wires : wiresOf (q .state) ≡ wiresOf (o .state)
+  more-made : madeOf (o .state) ≤ madeOf (q .state)
+  same-value : (k : ℕ) → k < madeOf (o .state) → valueAt (q .buffers .values) k ≡ valueAt (o .buffers .values) k
+
+call-kept : (c : Call) (o : Outcome) → Kept o (called c o)
+call-kept =
+    each-call (λ c o q. Kept o q)
+    (λ o ptr w a.
+    let m = madeOf (o .state) in
+    let v₀ = pairOf (firstPair w) in
+    let v₁ = pairOf (secondPair w) in
+    let vs = o .buffers .values in
+    record {
+      same-wires = refl;
+      more-made = omega arith;
+      same-value = λ k h. value-below (sets vs (2 * m) (cells v₀)) (m + 1) k v₁ (omega arith) ∙ value-below vs m k v₀ h;
+    })
+    (λ o ptr w n k. record { same-wires = refl; more-made = omega arith; same-value = λ k h. refl })
+    (λ o ptr word a. record {
+      same-wires = refl;
+      more-made = omega arith;
+      same-value = λ k h. value-below (o .buffers .values) (madeOf (o .state)) k (combine (opcode word) (valueOf (o .state) (leftId word) (o .buffers)) (valueOf (o .state) (rightId word) (o .buffers))) h;
+    })
+    (λ o ptr word n k e. record { same-wires = refl; more-made = omega arith; same-value = λ k h. refl })
+    (λ o ptr word n k e t. record { same-wires = refl; more-made = omega arith; same-value = λ k h. refl })
+
+calls-kept : (cs : List Call) (o : Outcome) → Kept o (calls cs o)
+calls-kept cs o =
+    each-list (Kept o)
+    (λ c q h.
+    let x = call-kept c q in
+    let m = x .more-made in
+    let n = h .more-made in
+    record {
+      same-wires = x .same-wires ∙ h .same-wires;
+      more-made = omega arith;
+      same-value = λ k l. x .same-value k (omega arith) ∙ h .same-value k l;
+    })
+    cs o (record { same-wires = refl; more-made = omega arith; same-value = λ k h. refl })
+
+-- after any calls, accepted or refused, from any state and buffers
+pub values-kept : (cs : List Call) (o : Outcome) (id : ℕ) → position (wiresOf (o .state)) id < madeOf (o .state)
+    → valueOf (calls cs o .state) id (calls cs o .buffers) ≡ valueOf (o .state) id (o .buffers)
+values-kept cs o id h = let x = calls-kept cs o in rw (x .same-wires) (x .same-value (position (wiresOf (o .state)) id) h)
+
+-- so whatever calls follow, each READ wire has its pair, and each gate's wire what its operands' wires give
+pub read-values-stay : (o : Outcome) (ptr : ℕ) (w : List (List ℕ)) (us : List ℕ) → called (read ptr w) o .told ≡ accepted us → (cs : List Call) → ReadValues (o .state) w (calls cs (called (read ptr w) o))
+read-values-stay o ptr w us e cs =
+    let s = o .state in
+    let q = called (read ptr w) o in
+    let a = read-accepted (o .state) ptr w (o .buffers) us e in
+    let h = a .is-sound in
+    let n = a .is-sound .counts in
+    let t = a .turn in
+    let z = no-gate-yet (o .state) h t in
+    let x = next-position (o .state) h (omega arith) in
+    let y = second-position (o .state) h (omega arith) in
+    let m₀ : position (wiresOf (called (read ptr w) o .state)) (o .state .«id_next») < madeOf (called (read ptr w) o .state) = rw (a .leaves) (omega arith) in
+    let m₁ : position (wiresOf (called (read ptr w) o .state)) (o .state .«id_next» - 1) < madeOf (called (read ptr w) o .state) = rw (a .leaves) (omega arith) in
+    let v = read-values (o .state) ptr w (o .buffers) us e in
+    record { first = values-kept cs q (s .«id_next») m₀ ∙ v .first; second = values-kept cs q (s .«id_next» - 1) m₁ ∙ v .second }
+
+pub gate-value-stays : (o : Outcome) (ptr word : ℕ) (us : List ℕ) → called (eval ptr word) o .told ≡ accepted us → (cs : List Call)
+    → valueOf (calls cs (called (eval ptr word) o) .state) (o .state .«id_next») (calls cs (called (eval ptr word) o) .buffers)
+    ≡ combine (opcode word) (valueOf (calls cs (called (eval ptr word) o) .state) (leftId word) (calls cs (called (eval ptr word) o) .buffers))
+    (valueOf (calls cs (called (eval ptr word) o) .state) (rightId word) (calls cs (called (eval ptr word) o) .buffers))
+unfolding calls
+gate-value-stays o ptr word us e cs =
+    let q = called (eval ptr word) o in
+    let a = eval-accepted (o .state) ptr word (o .buffers) us e in
+    let h = a .taken .is-sound in
+    let d = a .taken .all-read in
+    let t = a .taken .turn in
+    let x = next-position (o .state) h (omega arith) in
+    let m : position (wiresOf (called (eval ptr word) o .state)) (o .state .«id_next») < madeOf (called (eval ptr word) o .state) = rw (a .leaves) (omega arith) in
+    values-kept cs q (o .state .«id_next») m
+    ∙ gate-value (o .state) ptr word (o .buffers) us e
+    ∙ sym (ap₂ (combine (opcode word)) (values-kept (eval ptr word ∷ cs) o (leftId word) (a .taken .left .made)) (values-kept (eval ptr word ∷ cs) o (rightId word) (a .right .made)))
