@@ -21,7 +21,9 @@ use Rattle.trace.specs.Outcome.{Lent, Outcome, outcome, fits, unlessRefu
 use Rattle.trace.specs.Read.{firstPair, secondPair, readHanded, readTests, readDone, readMade, readStep}
 use Rattle.trace.specs.Eval.{evalTests, atGate, position, storedAnswer, operandAnswer, operand, counted, gateStep, operandsStep, evalStep}
 use Rattle.trace.specs.Calls.{leftCounted}
-use Rattle.trace.proofs.Tests.{both, passes, stops, Sound, Fits, read-turn-of, eval-turn-of, room-of}
+use Rattle.trace.proofs.Choices.{both, passes, not-stopped}
+use Rattle.trace.proofs.Ways as ways
+use Rattle.trace.proofs.Tests.{Sound, Fits, read-turn-of, eval-turn-of, room-of}
 
 -- ---- an answer is one or the other
 
@@ -43,7 +45,7 @@ at-gate gate (refused n k) = inr (n, refl, refl)
 elements-of : (xs vs : List ℕ) (t : Told) → ofElements xs t ≡ accepted vs → (k : ℕ) → k < length xs → getD xs k 0 < p
 unfolding ofElements
 elements-of xs vs t e k h =
-    let a = stops (ltb (firstOver xs) (length xs)) t 7 (firstOver xs) vs e in
+    let a = not-stopped (ltb (firstOver xs) (length xs)) t 7 (firstOver xs) vs e in
     let l : length xs ≤ firstOver xs = ltb-false _ _ (a .0) in
     over-below xs k (omega arith)
 
@@ -91,16 +93,12 @@ read-passed s ptr w b vs e =
       leaves = goes-on _ s b _ vs e;
     }
 
-read-stopped : (s : CircuitEvaluation) (ptr : ℕ) (w : List (List ℕ)) (b : Lent) (n k : ℕ) → readTests s (fits s b) ptr w ≡ refused n k → readStep s ptr w b ≡ outcome (refused n k) s b
-unfolding readStep
-read-stopped s ptr w b n k e = ends _ s b _ n k e
-
 pub read-cases : (s : CircuitEvaluation) (ptr : ℕ) (w : List (List ℕ)) (b : Lent) → ReadAccepted s ptr w b ⊎ ReadRefused s ptr w b
 read-cases s ptr w b =
     ⊎-elim
     (λ (a : (vs : List ℕ) × (readTests s (fits s b) ptr w ≡ accepted vs)). inl (read-passed s ptr w b (a .0) (a .1)))
     (λ (r : (n : ℕ) × (k : ℕ) × (readTests s (fits s b) ptr w ≡ refused n k)).
-    inr (record { number = r .0; place = r .1; leaves = read-stopped s ptr w b (r .0) (r .1) (r .2) }))
+    inr (record { number = r .0; place = r .1; leaves = sym (ways.read-refused s ptr w b (r .0) (r .1) (sym (r .2))) }))
     (told? (readTests s (fits s b) ptr w))
 
 pub read-accepted : (s : CircuitEvaluation) (ptr : ℕ) (w : List (List ℕ)) (b : Lent) (vs : List ℕ) → readStep s ptr w b .told ≡ accepted vs → ReadAccepted s ptr w b
@@ -209,8 +207,8 @@ module _ (s : CircuitEvaluation) (ptr word : ℕ) (b : Lent) where
   left-counted n k e f = record { number = n; place = k; leaves = e ∙ rw f }
 
   first-stops : (n k : ℕ) → evalTests s (fits s b) ptr word ≡ refused n k → EvalRefused s ptr word b
-  unfolding evalStep leftCounted
-  first-stops n k e = left-not-counted n k (rw e) (rw e)
+  unfolding leftCounted
+  first-stops n k e = left-not-counted n k (sym (ways.eval-refused s ptr word b n k (sym e))) (rw e)
 
   word-stops : (vs : List ℕ) (n k : ℕ) → evalTests s (fits s b) ptr word ≡ accepted vs → atGate (s .«evals_done») (decodeAnswer word) ≡ refused n k → isAccepted (decodeAnswer word) ≡ false
       → EvalRefused s ptr word b

@@ -1,4 +1,8 @@
+pub mod Choices
 pub mod Tests
+pub mod StepTests
+pub mod Writes
+pub mod Ways
 pub mod Answers
 pub mod Stores
 pub mod Accepted

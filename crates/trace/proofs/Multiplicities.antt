@@ -17,7 +17,7 @@ use Rattle.trace.specs.State.{wiresOf, madeOf, isAccepted}
 use Rattle.trace.specs.Outcome.{Lent, Outcome}
 use Rattle.trace.specs.Eval.{position, raised}
 use Rattle.trace.specs.Calls.{Call, read, eval, called, calls, names, gateNames, callNames, accepteds, leftCounted, leftName, callLeaves, leftRaised}
-use Rattle.trace.proofs.Tests.{both}
+use Rattle.trace.proofs.Choices.{both}
 use Rattle.trace.proofs.Stores.{same?, names-same, names-other, raised-at}
 use Rattle.trace.proofs.Runs.{each-call}
 use Rattle.trace.proofs.Reached.{call-follows, calls-follow, start}

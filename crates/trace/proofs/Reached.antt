@@ -18,7 +18,8 @@ use Rattle.trace.specs.Open.{opened, openAnswer}
 use Rattle.trace.specs.Read.{readDone}
 use Rattle.trace.specs.Eval.{evalDone}
 use Rattle.trace.specs.Calls.{Call, called, calls}
-use Rattle.trace.proofs.Tests.{both-hold, passes, counts-of, Sound, sound-is, Fits, room-of}
+use Rattle.trace.proofs.Choices.{both-hold, passes}
+use Rattle.trace.proofs.Tests.{counts-of, Sound, sound-is, Fits, room-of}
 use Rattle.trace.proofs.Accepted.{HasRoom}
 use Rattle.trace.proofs.NextId.{next-later}
 use Rattle.trace.proofs.Runs.{each-call, each-list}

@@ -1,14 +1,13 @@
 -- On a state and buffers that opening and calls give, 13 tells a step out of turn or a count at its end, and 6 is never told.
 -- Assumes nothing.
 use mathlib.Core.Path.{_≡_, refl, sym, ap, _∙_}
-use mathlib.Core.Bool.{Bool, true, false, cond, _&&_}
+use mathlib.Core.Bool.{Bool, true, false, cond}
 use mathlib.Core.List.{List, [], _∷_}
 use mathlib.Core.Logic.{_⊎_, ⊎-elim, inl, inr}
 use Prim.Native.Nat.{ℕ, _+_, _-_, _*_, _^_, _≤_, _<_}
 use native.Mathlib.Omega.{arith}
 use lib.Dec.{ltb, eqb}
 use lib.ListN.{length, getD}
-use borrow.Author.Tests.{lt-ltb, le-ltb, eq-eqb, ne-eqb}
 use Rattle.field.specs.Told.{Told, accepted, refused}
 use Rattle.field.specs.Field.{p, firstOver}
 use Rattle.field.specs.Answer.{ofElements}
@@ -21,6 +20,8 @@ use Rattle.trace.specs.Read.{readHanded, readTests, readStep}
 use Rattle.trace.specs.Eval.{evalTests, atGate, position, isMade, counted, storedAnswer, operandAnswer, operand, operandsStep, evalStep}
 use Rattle.trace.specs.Output.{headerNumbers, headerOf, isZero, outputAnswer}
 use Rattle.trace.proofs.Tests.{sound-is}
+use Rattle.trace.proofs.StepTests.{read-late, read-cells, eval-early, eval-late, eval-cells}
+use Rattle.trace.proofs.Ways.{read-refused, eval-refused}
 use Rattle.trace.proofs.Reached.{Ready, room-is}
 
 -- ---- a number that is not told
@@ -74,10 +75,6 @@ tells-elements xs s b o e = by-test (ltb (firstOver xs) (length xs)) (firstOver 
     by-test true k = refl
     by-test false k = e
 
-second-fails : (c : Bool) → (c && false) ≡ false
-second-fails true = refl
-second-fails false = refl
-
 module _ (o : Outcome) (ready : Ready o) where
   abbrev s : CircuitEvaluation
   s = o .state
@@ -95,14 +92,11 @@ module _ (o : Outcome) (ready : Ready o) where
 
   -- while READ steps lack, a READ step is accepted or tells 7
   pub read-in-turn : (ptr : ℕ) (w : List (List ℕ)) → o .state .«reads_done» < o .state .«num_read» → readStep (o .state) ptr w (o .buffers) .told ≡ ofElements (readHanded ptr w) (accepted [])
-  unfolding readStep readTests readTurn
-  read-in-turn ptr w h = rw (sound-here, lt-ltb _ _ h, fits-here) (tells-elements (readHanded ptr w) s b _ refl)
+  unfolding readStep
+  read-in-turn ptr w h = rw (← read-cells s (fits s b) ptr w sound-here h _ fits-here refl) (tells-elements (readHanded ptr w) s b _ refl)
 
   pub read-over : (ptr : ℕ) (w : List (List ℕ)) → o .state .«reads_done» ≡ o .state .«num_read» → readStep (o .state) ptr w (o .buffers) ≡ outcome (refused 13 0) (o .state) (o .buffers)
-  unfolding readStep readTests readTurn
-  read-over ptr w e =
-      let l : o .state .«num_read» ≤ o .state .«reads_done» = omega arith in
-      rw (sound-here, le-ltb _ _ l)
+  read-over ptr w e = sym (read-refused s ptr w b 13 0 (read-late s (fits s b) ptr w (omega arith)))
 
   pub read-13 : (ptr : ℕ) (w : List (List ℕ)) (k : ℕ) → readStep (o .state) ptr w (o .buffers) .told ≡ refused 13 k → o .state .«reads_done» ≡ o .state .«num_read»
   read-13 ptr w k e =
@@ -126,25 +120,18 @@ module _ (o : Outcome) (ready : Ready o) where
   -- with all READ steps done and while EVAL steps lack, the first tests of an EVAL step pass or tell 7
   pub eval-in-turn : (ptr word : ℕ) → o .state .«reads_done» ≡ o .state .«num_read» → o .state .«evals_done» < o .state .«num_eval»
       → evalTests (o .state) (fits (o .state) (o .buffers)) ptr word ≡ ofElements (word ∷ ptr ∷ []) (accepted [])
-  unfolding evalTests evalTurn
-  eval-in-turn ptr word e h = rw (sound-here, eq-eqb _ _ e, lt-ltb _ _ h, fits-here)
-
-  turn-over : (o .state .«reads_done» < o .state .«num_read») ⊎ (o .state .«evals_done» ≡ o .state .«num_eval») → evalTurn s ≡ false
-  unfolding evalTurn
-  turn-over h =
-      ⊎-elim
-      (λ (l : o .state .«reads_done» < o .state .«num_read»).
-      let n : (o .state .«reads_done» ≡ o .state .«num_read» → ⊥) = λ q. omega arith in
-      rw (sound-here, ne-eqb _ _ n))
-      (λ (e : o .state .«evals_done» ≡ o .state .«num_eval»).
-      let l : o .state .«num_eval» ≤ o .state .«evals_done» = omega arith in
-      rw (sound-here, le-ltb _ _ l) (second-fails (eqb (o .state .«reads_done») (o .state .«num_read»))))
-      h
+  eval-in-turn ptr word e h = sym (eval-cells s (fits s b) ptr word sound-here e h _ fits-here refl)
 
   pub eval-over : (ptr word : ℕ) → (o .state .«reads_done» < o .state .«num_read») ⊎ (o .state .«evals_done» ≡ o .state .«num_eval»)
       → (evalTests (o .state) (fits (o .state) (o .buffers)) ptr word ≡ refused 13 0) × (evalStep (o .state) ptr word (o .buffers) ≡ outcome (refused 13 0) (o .state) (o .buffers))
-  unfolding evalStep evalTests
-  eval-over ptr word h = (rw (turn-over h), rw (turn-over h))
+  eval-over ptr word h = (sym late, sym (eval-refused s ptr word b 13 0 late))
+    where
+      late : refused 13 0 ≡ evalTests s (fits s b) ptr word
+      late =
+          ⊎-elim
+          (λ (l : o .state .«reads_done» < o .state .«num_read»). eval-early s (fits s b) ptr word (λ e. omega arith))
+          (λ (e : o .state .«evals_done» ≡ o .state .«num_eval»). eval-late s (fits s b) ptr word (omega arith))
+          h
 
   pub eval-13 : (ptr word k : ℕ) → evalTests (o .state) (fits (o .state) (o .buffers)) ptr word ≡ refused 13 k
       → (o .state .«reads_done» < o .state .«num_read») ⊎ (o .state .«evals_done» ≡ o .state .«num_eval»)

@@ -1,3 +1,4 @@
+use borrow.Author.Tests.{eq-eqb, ne-eqb}
 use Rattle.trace.proofs.CircuitEvaluation.in_order.Statement.{statement}
 use Rattle.trace.proofs.CircuitEvaluation.in_order.Tie as tie
 use Rattle.trace.proofs.CircuitEvaluation.in_order.Reads as reads
@@ -5,11 +6,11 @@ use Rattle.trace.proofs.CircuitEvaluation.in_order.Lts as lts
 
 -- src/state.rt:97:13
 returns : tie.Need-returns
-returns c = ?
+returns c = rw (eq-eqb _ _ (c .if1 .taken))
 
 -- src/state.rt:93:5
 returns-2 : tie.Need-returns-2
-returns-2 c = ?
+returns-2 c = rw (ne-eqb _ _ (c .before .if1 .left))
 
 pub in-order-spec : {M : Type 1} → statement M
 in-order-spec = tie.close (tie.spec returns returns-2)

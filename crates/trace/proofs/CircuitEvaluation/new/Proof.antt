@@ -1,3 +1,9 @@
+use Rattle.trace.proofs.StepTests.{open-refused, open-short, open-opened}
+use borrow.Author.Tests.{not-true, not-false}
+use Rattle.trace.proofs.Tests.{Counts, counts-of}
+use Rattle.trace.specs.Inside.{testedTold}
+use native.Mathlib.Omega.{arith}
+use mathlib.Core.Path.{sym, ap, _∙_}
 use borrow.Author.Needs.{needs}
 use Rattle.trace.proofs.CircuitEvaluation.new.Statement.{statement}
 use Rattle.trace.proofs.CircuitEvaluation.new.Tie as tie
@@ -16,7 +22,7 @@ enum-known-tested c = search needs
 
 -- src/lib.rt:106:13
 returns : tie.Need-returns
-returns c = ?
+returns c = open-refused _ _ _ _ _ _ _ (ap testedTold (sym (c .before .tested .given .1)) ∙ c .before .before .before .test-counts .ensures)
 
 enum-told : tie.Need-enum-told
 enum-told c = search needs
@@ -27,7 +33,7 @@ has-room-requires c κs = search needs
 
 -- src/lib.rt:109:13
 returns-2 : tie.Need-returns-2
-returns-2 c = ?
+returns-2 c = open-short _ _ _ _ _ (ap testedTold (sym (c .before .before .enum-told .given .1)) ∙ c .before .before .before .before .test-counts .ensures) (sym (c .before .has-room .ensures) ∙ not-true _ (c .if1 .taken))
 
 -- src/lib.rt:118:22
 mul-t17 : tie.Need-mul-t17
@@ -39,11 +45,14 @@ add-t19 c = search needs
 
 -- src/lib.rt:118:22
 sub-t20 : tie.Need-sub-t20
-sub-t20 c = ?
+sub-t20 c = let h = counts-of _ _ _ _ _ (sym (ap testedTold (sym (c .before .before .enum-told .given .1)) ∙ c .before .before .before .before .test-counts .ensures)) .0 in omega arith
 
 -- src/lib.rt:93:5
 returns-3 : tie.Need-returns-3
-returns-3 c = ?
+returns-3 c = 
+    open-opened _ _ _ _ _ (ap testedTold (sym (c .before .before .enum-told .given .1)) ∙ c .before .before .before .before .test-counts .ensures) _
+    (sym (c .before .has-room .ensures) ∙ not-false _ (c .if1 .left))
+    (let h = counts-of _ _ _ _ _ (sym (ap testedTold (sym (c .before .before .enum-told .given .1)) ∙ c .before .before .before .before .test-counts .ensures)) .0 in omega arith)
 
 pub new-spec : {M : Type 1} → statement M
 new-spec =

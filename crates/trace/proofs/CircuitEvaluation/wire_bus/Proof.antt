@@ -1,3 +1,5 @@
+use Rattle.trace.specs.Inside.{bus}
+use mathlib.Core.Path.{ap₂}
 use borrow.Author.Needs.{needs}
 use Rattle.trace.proofs.CircuitEvaluation.wire_bus.Statement.{statement}
 use Rattle.trace.proofs.CircuitEvaluation.wire_bus.Tie as tie
@@ -16,7 +18,7 @@ made-requires c κs = search needs
 
 -- src/steps.rt:19:5
 returns : tie.Need-returns
-returns c = ?
+returns c = ap₂ bus (c .before .num-wires .ensures) (c .made .ensures)
 
 pub wire-bus-spec : {M : Type 1} → statement M
 wire-bus-spec = tie.close (tie.spec num-wires-requires made-requires returns)

@@ -1,3 +1,11 @@
+use Rattle.trace.specs.Inside.{valueTold}
+use Rattle.trace.specs.Eval.{combine}
+use Rattle.instruction.specs.Decode.{opNumber}
+use Rattle.instruction.specs.declared.Op.{Op}
+use Rattle.field.proofs.Answers.{quad-value}
+use Rattle.field.specs.Answer.{pairOf}
+use Rattle.field.specs.Pair.{cells, addPair, subPair, mulPair}
+use mathlib.Core.Path.{sym, ap, _∙_}
 use borrow.Author.Needs.{needs}
 use Rattle.trace.proofs.operation.apply.Statement.{statement}
 use Rattle.trace.proofs.operation.apply.Tie as tie
@@ -46,15 +54,24 @@ value-requires-3 c κs = search needs
 
 -- src/operation.rt:16:1
 returns : tie.Need-returns
-returns c = ?
+returns c = 
+    c .value .ensures
+    ∙ ap valueTold (c .before .sub .ensures ∙ quad-value subPair (c .before .before .before .before .args .v-l) (c .before .before .before .before .args .v-r) (c .before .before .before .before .pre .0) (c .before .before .before .before .pre .1))
+    ∙ ap (λ (o : Op). cells (combine (opNumber o) (pairOf (c .before .before .before .before .args .v-l)) (pairOf (c .before .before .before .before .args .v-r)))) (sym (c .before .before .enum-told .given .1))
 
 -- src/operation.rt:16:1
 returns-2 : tie.Need-returns-2
-returns-2 c = ?
+returns-2 c = 
+    c .value2 .ensures
+    ∙ ap valueTold (c .before .mul .ensures ∙ quad-value mulPair (c .before .before .before .before .args .v-l) (c .before .before .before .before .args .v-r) (c .before .before .before .before .pre .0) (c .before .before .before .before .pre .1))
+    ∙ ap (λ (o : Op). cells (combine (opNumber o) (pairOf (c .before .before .before .before .args .v-l)) (pairOf (c .before .before .before .before .args .v-r)))) (sym (c .before .before .enum-told2 .given .1))
 
 -- src/operation.rt:16:1
 returns-3 : tie.Need-returns-3
-returns-3 c = ?
+returns-3 c = 
+    c .value3 .ensures
+    ∙ ap valueTold (c .before .add .ensures ∙ quad-value addPair (c .before .before .before .before .args .v-l) (c .before .before .before .before .args .v-r) (c .before .before .before .before .pre .0) (c .before .before .before .before .pre .1))
+    ∙ ap (λ (o : Op). cells (combine (opNumber o) (pairOf (c .before .before .before .before .args .v-l)) (pairOf (c .before .before .before .before .args .v-r)))) (sym (c .before .before .enum-told3 .given .1))
 
 pub apply-spec : {M : Type 1} → statement M
 apply-spec =

@@ -1,3 +1,7 @@
+use Rattle.field.specs.declared.quad.QuadAnswer.{QuadAnswer}
+use Rattle.trace.specs.Inside.{valueTold}
+use Rattle.field.specs.Answer.{quadTold}
+use mathlib.Core.Path.{ap, sym}
 use borrow.Author.Needs.{needs}
 use Rattle.trace.proofs.operation.value.Statement.{statement}
 use Rattle.trace.proofs.operation.value.Tie as tie
@@ -18,7 +22,7 @@ returns c = search needs
 
 -- src/operation.rt:39:1
 returns-2 : tie.Need-returns-2
-returns-2 c = ?
+returns-2 c = ap (λ (a : QuadAnswer). valueTold (quadTold a)) (sym (c .before .answer .given .1))
 
 pub value-spec : {M : Type 1} → statement M
 value-spec = tie.close (tie.spec enum-known-answer enum-told returns returns-2)

@@ -1,3 +1,5 @@
+use mathlib.Core.Path.{refl}
+use Rattle.trace.proofs.StepTests.{no-wire, not-made, as-stored, first-over-p, second-over-p, count-full, stored-value}
 use borrow.Author.Needs.{needs}
 use Rattle.trace.proofs.wire_bus.WireBus.read_value.Statement.{statement}
 use Rattle.trace.proofs.wire_bus.WireBus.read_value.Tie as tie
@@ -6,7 +8,7 @@ use Rattle.trace.proofs.wire_bus.WireBus.read_value.Lts as lts
 
 -- src/wire_bus.rt:59:13
 returns : tie.Need-returns
-returns c = ?
+returns c = (no-wire _ _ _ _ _ _ _ (search needs), refl)
 
 -- src/wire_bus.rt:61:18
 sub-at : tie.Need-sub-at
@@ -18,7 +20,7 @@ sub-at-2 c = search needs
 
 -- src/wire_bus.rt:63:13
 returns-2 : tie.Need-returns-2
-returns-2 c = ?
+returns-2 c = (not-made _ _ _ _ _ _ _ (search needs), refl)
 
 -- src/wire_bus.rt:65:26
 mul-v-0 : tie.Need-mul-v-0
@@ -38,7 +40,7 @@ mul-t17 c = search needs
 
 -- src/wire_bus.rt:67:13
 returns-3 : tie.Need-returns-3
-returns-3 c = ?
+returns-3 c = (as-stored _ _ _ _ _ _ _ _ (search needs) (search needs) (first-over-p _ _ _ (search needs)), refl)
 
 -- src/wire_bus.rt:69:26
 mul-v-1 : tie.Need-mul-v-1
@@ -66,7 +68,7 @@ add-t22 c = search needs
 
 -- src/wire_bus.rt:71:13
 returns-4 : tie.Need-returns-4
-returns-4 c = ?
+returns-4 c = (as-stored _ _ _ _ _ _ _ _ (search needs) (search needs) (second-over-p _ _ _ (search needs) (search needs)), refl)
 
 -- src/wire_bus.rt:73:21
 mul-count : tie.Need-mul-count
@@ -78,7 +80,7 @@ slice-read-count c = search needs
 
 -- src/wire_bus.rt:75:13
 returns-5 : tie.Need-returns-5
-returns-5 c = ?
+returns-5 c = (as-stored _ _ _ _ _ _ _ _ (search needs) (search needs) (count-full _ _ _ (search needs) (search needs) (search needs)), refl)
 
 -- src/wire_bus.rt:77:22
 add-counts : tie.Need-add-counts
@@ -98,7 +100,7 @@ same-length c = search needs
 
 -- src/wire_bus.rt:46:5
 returns-6 : tie.Need-returns-6
-returns-6 c = ?
+returns-6 c = (as-stored _ _ _ _ _ _ _ _ (search needs) (search needs) (stored-value _ _ _ (search needs) (search needs) (search needs)), refl)
 
 pub read-value-spec : {M : Type 1} → statement M
 read-value-spec =
