@@ -27,11 +27,11 @@ use Rattle.trace.proofs.Tests.{Sound, Fits, read-turn-of, eval-turn-of,
 
 -- ---- an answer is one or the other
 
-pub told? : (t : Told) → ((vs : List ℕ) × (t ≡ accepted vs)) ⊎ ((number : ℕ) × (place : ℕ) × (t ≡ refused number place))
+told? : (t : Told) → ((vs : List ℕ) × (t ≡ accepted vs)) ⊎ ((number : ℕ) × (place : ℕ) × (t ≡ refused number place))
 told? (accepted vs) = inl (vs, refl)
 told? (refused n k) = inr (n, k, refl)
 
-pub not-both : (t : Told) (vs : List ℕ) (number place : ℕ) → t ≡ accepted vs → t ≡ refused number place → ⊥
+not-both : (t : Told) (vs : List ℕ) (number place : ℕ) → t ≡ accepted vs → t ≡ refused number place → ⊥
 not-both t vs n k e f = let z : _≡_ {A = ℕ} 0 1 = cc in absurd (omega arith)
 
 accepts : (t : Told) → isAccepted t ≡ true → (vs : List ℕ) × (t ≡ accepted vs)
@@ -66,6 +66,7 @@ HasRoom s b = Fits (s .«num_read») (s .«num_eval») (length (b .values)) (len
 
 -- ---- READ
 
+-- an accepted READ step passed its tests, "13, 6, 7", made two wires and wrote its node
 pub record ReadAccepted (s : CircuitEvaluation) (ptr : ℕ) (w : List (List ℕ)) (b : Lent) : Type 0 where
   pub is-sound : Sound s
   pub turn : s .«reads_done» < s .«num_read»
@@ -152,7 +153,7 @@ pub record LeftTaken (s : CircuitEvaluation) (ptr word : ℕ) (b : Lent) : Type 
   pub operation : opcode word < 3
   pub left : Readable s (leftId word) b
 
--- an accepted one looked at its right operand in the buffers in which the left one was counted, and counted that too
+-- an accepted EVAL step looked at its right operand in the buffers in which the left one was counted, counted that too, made the gate's wire and wrote its node
 pub record EvalAccepted (s : CircuitEvaluation) (ptr word : ℕ) (b : Lent) : Type 0 where
   pub taken : LeftTaken s ptr word b
   pub right : Readable s (rightId word) (counted s (leftId word) b)

@@ -23,7 +23,7 @@ use Rattle.trace.proofs.Stores.{sets-below, sets-above, sets-in}
 use Rattle.trace.proofs.Accepted.{read-accepted, eval-accepted}
 use Rattle.trace.proofs.Reached.{no-gate-yet, read-sound, eval-sound}
 
--- ---- "ids are given downwards from num_wires - 1 to 0", on the states that opening and calls give (`reached-ready`)
+-- ---- "ids are given downwards from num_wires - 1 to 0", on every state that opening and calls give (`reached-ready`)
 
 pub id-lacking : (s : CircuitEvaluation) → Sound s → madeOf s < wiresOf s → s .«id_next» ≡ wiresOf s - 1 - madeOf s
 id-lacking s h l = h .next ∙ next-lacking (wiresOf s) (madeOf s) (h .counts .few) l

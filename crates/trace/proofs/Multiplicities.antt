@@ -180,8 +180,8 @@ named-twice word e =
     omega arith
 
 module _ (ctx clk num-read num-eval : ℕ) (b : Lent) where
-  -- "as in the Rust, the left count is raised before the right operand is looked at, and stays raised where the right is refused": after any calls the count of a wire that is made is the number of operands that name it in accepted gates, both operands counting, and of left operands that name it in steps refused at their right one
-  -- no accepted opening is asked for: on numbers that opening refuses no call makes a wire
+  -- "after any run of steps each made wire's count is the number of operands naming it in accepted gates, plus the left counts that refused steps left raised"
+  -- an accepted opening is not asked for: where opening refuses, no call makes a wire
   pub multiplicities : (cs : List Call) (id : ℕ) → id < wires num-read num-eval → position (wires num-read num-eval) id < madeOf (calls cs (start ctx clk num-read num-eval b) .state)
       → getD (calls cs (start ctx clk num-read num-eval b) .buffers .counts) (position (wires num-read num-eval) id) 0
       ≡ accepteds cs (start ctx clk num-read num-eval b) id + leftRaised cs (start ctx clk num-read num-eval b) id

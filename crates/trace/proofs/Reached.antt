@@ -34,7 +34,7 @@ pub record Follows (o q : Outcome) : Type 0 where
   pub same-counts : length (q .buffers .counts) ≡ length (o .buffers .counts)
   pub same-nodes : length (q .buffers .nodes) ≡ length (o .buffers .nodes)
 
--- a state keeps its numbers where only its steps done and its next id change
+-- the seven facts in their order
 follows-by : (o q : Outcome) → q .state .ctx ≡ o .state .ctx → q .state .clk ≡ o .state .clk → q .state .«num_read» ≡ o .state .«num_read» → q .state .«num_eval» ≡ o .state .«num_eval»
     → length (q .buffers .values) ≡ length (o .buffers .values) → length (q .buffers .counts) ≡ length (o .buffers .counts) → length (q .buffers .nodes) ≡ length (o .buffers .nodes)
     → Follows o q
@@ -133,14 +133,14 @@ module _ (ctx clk num-read num-eval : ℕ) (b : Lent) (vs : List ℕ) (opens : o
   pub reached-ready : (cs : List Call) → Ready (calls cs (start ctx clk num-read num-eval b))
   reached-ready cs = each-list Ready call-ready cs (start ctx clk num-read num-eval b) start-ready
 
-  -- "13 looks at the state's own numbers": those of a state that opening and steps give are never refused
+  -- "a state that opening and accepted steps give never gets 13 for its own numbers"
   pub reached-sound : (cs : List Call) → sound (calls cs (start ctx clk num-read num-eval b) .state) ≡ true
   reached-sound cs = sound-is _ (reached-ready cs .is-sound)
 
-  -- "6: a lent value, count or node buffer is shorter than the whole circuit needs": nor are the buffers
+  -- nor do buffers that opening found long enough get 6
   pub reached-fits : (cs : List Call) → fits (calls cs (start ctx clk num-read num-eval b) .state) (calls cs (start ctx clk num-read num-eval b) .buffers) ≡ true
   reached-fits cs = room-is _ _ _ _ _ (reached-ready cs .has-room)
 
-  -- what was handed to opening stays
+  -- ctx, clk, num_read and num_eval stay as they were handed to opening, and the buffers as long
   pub reached-follows : (cs : List Call) → Follows (start ctx clk num-read num-eval b) (calls cs (start ctx clk num-read num-eval b))
   reached-follows cs = calls-follow cs (start ctx clk num-read num-eval b)
