@@ -21,7 +21,7 @@ use Rattle.trace.proofs.Tests.{Sound}
 use Rattle.trace.proofs.NextId.{next-lacking, next-none}
 use Rattle.trace.proofs.Stores.{sets-below, sets-above, sets-in}
 use Rattle.trace.proofs.Accepted.{read-accepted, eval-accepted}
-use Rattle.trace.proofs.Reached.{no-gate-yet, read-sound, eval-sound}
+use Rattle.trace.proofs.Reached.{no-gate-yet}
 
 -- ---- "ids are given downwards from num_wires - 1 to 0", on every state that opening and calls give (`reached-ready`)
 
@@ -37,16 +37,11 @@ first-id ctx clk num-read num-eval few h = let x = next-lacking (wires num-read 
 
 pub read-next : (s : CircuitEvaluation) → Sound s → s .«reads_done» < s .«num_read» → readDone s .«id_next» ≡ s .«id_next» - 2
 read-next s h turn =
-    let n = h .counts in
     let z = no-gate-yet s h turn in
-    let x = id-lacking s h (omega arith) in
-    let y = id-lacking (readDone s) (read-sound s h turn) (omega arith) in
     omega arith
 
 pub eval-next : (s : CircuitEvaluation) → Sound s → s .«reads_done» ≡ s .«num_read» → s .«evals_done» + 1 < s .«num_eval» → evalDone s .«id_next» ≡ s .«id_next» - 1
 eval-next s h all-read turn =
-    let x = id-lacking s h (omega arith) in
-    let y = id-lacking (evalDone s) (eval-sound s h all-read (omega arith)) (omega arith) in
     omega arith
 
 -- "the wire with an id lies at position num_wires - 1 - id": the next one after those that are made
@@ -75,8 +70,6 @@ pub read-node : (s : CircuitEvaluation) (ptr : ℕ) (w : List (List ℕ)) (b : L
     (readNode ptr (s .«id_next») (pairOf (firstPair w)) (s .«id_next» - 1) (pairOf (secondPair w)))
 read-node s ptr w b vs e =
     let a = read-accepted s ptr w b vs e in
-    let t = a .turn in
-    let r = a .has-room in
     let c : nodeCells (s .«reads_done») 0 ≡ 7 * s .«reads_done» = omega arith in
     rw (a .leaves, c) (written (b .nodes) (7 * s .«reads_done») (readNode ptr (s .«id_next») (pairOf (firstPair w)) (s .«id_next» - 1) (pairOf (secondPair w))) (omega arith))
 
@@ -86,8 +79,6 @@ pub eval-node : (s : CircuitEvaluation) (ptr word : ℕ) (b : Lent) (vs : List �
     (evalNode ptr (evalOp (opcode word)) (s .«id_next») (combine (opcode word) (valueOf s (leftId word) b) (valueOf s (rightId word) b)) (leftId word) (valueOf s (leftId word) b) (rightId word) (valueOf s (rightId word) b))
 eval-node s ptr word b vs e =
     let a = eval-accepted s ptr word b vs e in
-    let t = a .taken .turn in
-    let r = a .taken .has-room in
     let vl = valueOf s (leftId word) b in
     let vr = valueOf s (rightId word) b in
     rw (a .leaves) (written (b .nodes) (7 * s .«num_read» + 11 * s .«evals_done») (evalNode ptr (evalOp (opcode word)) (s .«id_next») (combine (opcode word) vl vr) (leftId word) vl (rightId word) vr) (omega arith))

@@ -116,22 +116,16 @@ count-called =
     each-call (λ c o q. (id : ℕ) → id < wiresOf (o .state) → countOf q id ≡ countOf o id + adds c o q id)
     (λ o ptr w a id h.
     let f = a .has-room in
-    let t = a .turn in
-    let n = a .is-sound .evals-end in
     read-counts (madeOf (o .state)) _ (wiresOf (o .state)) (o .buffers .counts) _ (omega arith) (omega arith) (f .for-counts))
     (λ o ptr w n k id h. omega arith)
     (λ o ptr word a id h.
     let f = a .taken .has-room in
-    let t = a .taken .turn in
-    let e = a .taken .all-read in
     let l = a .taken .left in
     let r = a .right in
     eval-counts (madeOf (o .state)) _ (wiresOf (o .state)) (o .buffers .counts) (leftId word) (rightId word) id (omega arith) (omega arith) (f .for-counts) (l .wire) (l .made) (r .wire) (r .made) h)
     (λ o ptr word n k e id h. rw e (omega arith))
     (λ o ptr word n k e t id h.
     let f = t .has-room in
-    let g = t .turn in
-    let d = t .all-read in
     let l = t .left in
     rw e (left-counts (madeOf (o .state)) (wiresOf (o .state)) (o .buffers .counts) (leftId word) id (omega arith) (f .for-counts) (l .wire) (l .made) h))
 
@@ -142,8 +136,6 @@ unfolding calls accepteds leftRaised
 counts-called [] o id h = omega arith
 counts-called (c ∷ cs) o id h =
     let f = call-follows c o in
-    let r = f .same-read in
-    let e = f .same-eval in
     let x = counts-called cs (called c o) id (omega arith) in
     let y = count-called c o id h in
     let z = adds-is c o id in

@@ -39,8 +39,6 @@ pub call-past : (c : Call) (o : Outcome) → Past o (called c o)
 call-past =
     each-call (λ c o q. Past o q)
     (λ o ptr w a.
-    let t = a .turn in
-    let n = a .is-sound .evals-end in
     let m = madeOf (o .state) in
     let v₀ = pairOf (firstPair w) in
     let v₁ = pairOf (secondPair w) in
@@ -51,10 +49,6 @@ call-past =
     })
     (λ o ptr w n k. record { values-past = λ j h. refl; counts-past = λ j h. refl; nodes-past = λ j h. refl })
     (λ o ptr word a.
-    let t = a .taken .turn in
-    let e = a .taken .all-read in
-    let l = a .taken .left in
-    let r = a .right in
     let m = madeOf (o .state) in
     let w = wiresOf (o .state) in
     let i = position (wiresOf (o .state)) (leftId word) in
@@ -72,9 +66,6 @@ call-past =
     })
     (λ o ptr word n k e. record { values-past = λ j h. refl; counts-past = λ j h. refl; nodes-past = λ j h. refl })
     (λ o ptr word n k e t.
-    let g = t .turn in
-    let d = t .all-read in
-    let l = t .left in
     record {
       values-past = λ j h. refl;
       counts-past = λ j h. count-past (o .buffers .counts) (position (wiresOf (o .state)) (leftId word)) (wiresOf (o .state)) _ j (omega arith) h;
@@ -87,8 +78,6 @@ unfolding calls
 calls-past [] o = record { values-past = λ j h. refl; counts-past = λ j h. refl; nodes-past = λ j h. refl }
 calls-past (c ∷ cs) o =
     let f = call-follows c o in
-    let r = f .same-read in
-    let e = f .same-eval in
     let x = call-past c o in
     let y = calls-past cs (called c o) in
     record {

@@ -66,7 +66,6 @@ no-gate-yet s h turn = ⊎-elim (λ (z : s .«evals_done» ≡ 0). z) (λ (r : s
 pub read-sound : (s : CircuitEvaluation) → Sound s → s .«reads_done» < s .«num_read» → Sound (readDone s)
 read-sound s h turn =
     let n = h .counts in
-    let e = h .evals-end in
     let m : madeOf (readDone s) ≡ madeOf s + 2 = omega arith in
     record {
       counts = h .counts;

@@ -164,8 +164,6 @@ module _ (o : Outcome) (ready : Ready o) where
 
   turn? : Out ⊎ In
   turn? =
-      let r = ready .is-sound .reads-end in
-      let n = ready .is-sound .evals-end in
       ⊎-elim
       (λ (l : o .state .«reads_done» < o .state .«num_read»). inl (inl l))
       (λ (l : o .state .«num_read» ≤ o .state .«reads_done»). ⊎-elim

@@ -18,7 +18,6 @@ use Rattle.trace.specs.Calls.{Call, read, eval, called, calls}
 use Rattle.trace.proofs.Stores.{value-stored, value-below}
 use Rattle.trace.proofs.Accepted.{read-accepted, eval-accepted}
 use Rattle.trace.proofs.Runs.{each-call, each-list}
-use Rattle.trace.proofs.Reached.{no-gate-yet}
 use Rattle.trace.proofs.Ids.{next-position, second-position}
 
 -- "a memory word is two pairs, first cells first": an accepted READ step stores them at the positions of the ids id_next and id_next - 1
@@ -30,10 +29,6 @@ pub read-values : (s : CircuitEvaluation) (ptr : ℕ) (w : List (List ℕ)) (b :
 read-values s ptr w b us e =
     let a = read-accepted s ptr w b us e in
     let h = a .is-sound in
-    let n = a .is-sound .counts in
-    let t = a .turn in
-    let z = no-gate-yet s (a .is-sound) (a .turn) in
-    let r = a .has-room in
     let m = madeOf s in
     let v₀ = pairOf (firstPair w) in
     let v₁ = pairOf (secondPair w) in
@@ -50,9 +45,6 @@ pub gate-value : (s : CircuitEvaluation) (ptr word : ℕ) (b : Lent) (us : List 
 gate-value s ptr word b us e =
     let a = eval-accepted s ptr word b us e in
     let h = a .taken .is-sound in
-    let q = a .taken .all-read in
-    let t = a .taken .turn in
-    let r = a .taken .has-room in
     rw (a .leaves, next-position s h (omega arith)) (value-stored (b .values) (madeOf s) (combine (opcode word) (valueOf s (leftId word) b) (valueOf s (rightId word) b)) (omega arith))
 
 -- ---- a wire that is made keeps its value
@@ -90,8 +82,6 @@ calls-kept cs o =
     each-list (Kept o)
     (λ c q h.
     let x = call-kept c q in
-    let m = x .more-made in
-    let n = h .more-made in
     record {
       same-wires = x .same-wires ∙ h .same-wires;
       more-made = omega arith;
@@ -111,11 +101,7 @@ read-values-stay o ptr w us e cs =
     let q = called (read ptr w) o in
     let a = read-accepted (o .state) ptr w (o .buffers) us e in
     let h = a .is-sound in
-    let n = a .is-sound .counts in
     let t = a .turn in
-    let z = no-gate-yet (o .state) h t in
-    let x = next-position (o .state) h (omega arith) in
-    let y = second-position (o .state) h (omega arith) in
     let m₀ : position (wiresOf (called (read ptr w) o .state)) (o .state .«id_next») < madeOf (called (read ptr w) o .state) = rw (a .leaves) (omega arith) in
     let m₁ : position (wiresOf (called (read ptr w) o .state)) (o .state .«id_next» - 1) < madeOf (called (read ptr w) o .state) = rw (a .leaves) (omega arith) in
     let v = read-values (o .state) ptr w (o .buffers) us e in
@@ -130,8 +116,6 @@ gate-value-stays o ptr word us e cs =
     let q = called (eval ptr word) o in
     let a = eval-accepted (o .state) ptr word (o .buffers) us e in
     let h = a .taken .is-sound in
-    let d = a .taken .all-read in
-    let t = a .taken .turn in
     let x = next-position (o .state) h (omega arith) in
     let m : position (wiresOf (called (eval ptr word) o .state)) (o .state .«id_next») < madeOf (called (eval ptr word) o .state) = rw (a .leaves) (omega arith) in
     values-kept cs q (o .state .«id_next») m
