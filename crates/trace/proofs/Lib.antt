@@ -13,4 +13,5 @@ pub mod Turns
 pub mod Multiplicities
 pub mod Past
 pub mod Ids
+pub mod Kept
 pub mod Values

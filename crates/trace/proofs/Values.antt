@@ -1,8 +1,8 @@
--- Values by id: what an accepted step gives its wires, and that no call changes the value of a wire that is made.
+-- Values by id: what an accepted step gives its wires, at once and after any calls that follow.
 -- Assumes nothing.
-use mathlib.Core.Path.{_≡_, refl, sym, ap₂, _∙_}
+use mathlib.Core.Path.{_≡_, sym, ap₂, _∙_}
 use mathlib.Core.List.{List, _∷_}
-use Prim.Native.Nat.{ℕ, _+_, _-_, _*_, _≤_, _<_}
+use Prim.Native.Nat.{ℕ, _+_, _-_, _*_, _<_}
 use native.Mathlib.Omega.{arith}
 use lib.Seq.{sets, length-sets}
 use Rattle.field.specs.Told.{accepted}
@@ -11,13 +11,13 @@ use Rattle.field.specs.Answer.{pairOf}
 use Rattle.instruction.specs.Decode.{leftId, rightId, opcode}
 use Rattle.trace.specs.declared.CircuitEvaluation.{CircuitEvaluation}
 use Rattle.trace.specs.State.{wiresOf, madeOf}
-use Rattle.trace.specs.Outcome.{Lent, Outcome, valueAt}
+use Rattle.trace.specs.Outcome.{Lent, Outcome}
 use Rattle.trace.specs.Read.{firstPair, secondPair, readStep}
 use Rattle.trace.specs.Eval.{position, valueOf, combine, evalStep}
 use Rattle.trace.specs.Calls.{Call, read, eval, called, calls}
 use Rattle.trace.proofs.Stores.{value-stored, value-below}
 use Rattle.trace.proofs.Accepted.{read-accepted, eval-accepted}
-use Rattle.trace.proofs.Runs.{each-call, each-list}
+use Rattle.trace.proofs.Kept.{values-kept}
 use Rattle.trace.proofs.Ids.{next-position, second-position}
 
 -- "a memory word is two pairs, first cells first": an accepted READ step stores them at the positions of the ids id_next and id_next - 1
@@ -47,54 +47,7 @@ gate-value s ptr word b us e =
     let h = a .taken .is-sound in
     rw (a .leaves, next-position s h (omega arith)) (value-stored (b .values) (madeOf s) (combine (opcode word) (valueOf s (leftId word) b) (valueOf s (rightId word) b)) (omega arith))
 
--- ---- a wire that is made keeps its value
-
--- the wires stay as many, those that are made stay made, and keep their values
-record Kept (o q : Outcome) : Type 0 where
-  same-wires : wiresOf (q .state) ≡ wiresOf (o .state)
-  more-made : madeOf (o .state) ≤ madeOf (q .state)
-  same-value : (k : ℕ) → k < madeOf (o .state) → valueAt (q .buffers .values) k ≡ valueAt (o .buffers .values) k
-
-call-kept : (c : Call) (o : Outcome) → Kept o (called c o)
-call-kept =
-    each-call (λ c o q. Kept o q)
-    (λ o ptr w a.
-    let m = madeOf (o .state) in
-    let v₀ = pairOf (firstPair w) in
-    let v₁ = pairOf (secondPair w) in
-    let vs = o .buffers .values in
-    record {
-      same-wires = refl;
-      more-made = omega arith;
-      same-value = λ k h. value-below (sets vs (2 * m) (cells v₀)) (m + 1) k v₁ (omega arith) ∙ value-below vs m k v₀ h;
-    })
-    (λ o ptr w n k. record { same-wires = refl; more-made = omega arith; same-value = λ k h. refl })
-    (λ o ptr word a. record {
-      same-wires = refl;
-      more-made = omega arith;
-      same-value = λ k h. value-below (o .buffers .values) (madeOf (o .state)) k (combine (opcode word) (valueOf (o .state) (leftId word) (o .buffers)) (valueOf (o .state) (rightId word) (o .buffers))) h;
-    })
-    (λ o ptr word n k e. record { same-wires = refl; more-made = omega arith; same-value = λ k h. refl })
-    (λ o ptr word n k e t. record { same-wires = refl; more-made = omega arith; same-value = λ k h. refl })
-
-calls-kept : (cs : List Call) (o : Outcome) → Kept o (calls cs o)
-calls-kept cs o =
-    each-list (Kept o)
-    (λ c q h.
-    let x = call-kept c q in
-    record {
-      same-wires = x .same-wires ∙ h .same-wires;
-      more-made = omega arith;
-      same-value = λ k l. x .same-value k (omega arith) ∙ h .same-value k l;
-    })
-    cs o (record { same-wires = refl; more-made = omega arith; same-value = λ k h. refl })
-
--- after any calls, accepted or refused, from any state and buffers
-pub values-kept : (cs : List Call) (o : Outcome) (id : ℕ) → position (wiresOf (o .state)) id < madeOf (o .state)
-    → valueOf (calls cs o .state) id (calls cs o .buffers) ≡ valueOf (o .state) id (o .buffers)
-values-kept cs o id h = let x = calls-kept cs o in rw (x .same-wires) (x .same-value (position (wiresOf (o .state)) id) h)
-
--- so whatever calls follow, each READ wire has its pair, and each gate's wire what its operands' wires give
+-- whatever calls follow, each READ wire has its pair, and each gate's wire what its operands' wires give
 pub read-values-stay : (o : Outcome) (ptr : ℕ) (w : List (List ℕ)) (us : List ℕ) → called (read ptr w) o .told ≡ accepted us → (cs : List Call) → ReadValues (o .state) w (calls cs (called (read ptr w) o))
 read-values-stay o ptr w us e cs =
     let s = o .state in
