@@ -1,6 +1,6 @@
 -- What a step's tests, the opening's and the result's come to, in document 01's order.
 -- Assumes nothing.
-use mathlib.Core.Path.{_≡_, refl, sym, ap, _∙_}
+use mathlib.Core.Path.{_≡_, sym, _∙_}
 use mathlib.Core.Bool.{Bool, true, false, cond, _&&_}
 use mathlib.Core.List.{List, [], _∷_}
 use Prim.Native.Nat.{ℕ, _+_, _-_, _*_, _^_, _≤_, _<_}
@@ -17,7 +17,7 @@ use Rattle.trace.specs.State.{wiresOf, madeOf, nextId, sound, readTurn, 
 use Rattle.trace.specs.Outcome.{Lent, fits, valueAt}
 use Rattle.trace.specs.Open.{opened, openAnswer}
 use Rattle.trace.specs.Read.{readHanded, readTests}
-use Rattle.trace.specs.Eval.{evalTests, position, isMade, storedAnswer, operandAnswer}
+use Rattle.trace.specs.Eval.{evalTests, position, storedAnswer, operandAnswer}
 use Rattle.trace.specs.Output.{headerNumbers, headerOf, isZero, outputAnswer}
 use Rattle.trace.proofs.Choices.{both-hold, first-fails, second-fails}
 use Rattle.trace.proofs.Tests.{counts-of, counts-pass}

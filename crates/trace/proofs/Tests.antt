@@ -1,20 +1,17 @@
 -- What the tests say of the numbers, both ways.
 -- Assumes nothing.
 use mathlib.Core.Path.{_≡_, refl, sym, ap, _∙_}
-use mathlib.Core.Bool.{Bool, true, false, cond, _&&_, _||_}
-use mathlib.Core.List.{List, [], _∷_}
+use mathlib.Core.Bool.{Bool, true, false, _&&_, _||_}
+use mathlib.Core.List.{List, []}
 use mathlib.Core.Logic.{_⊎_, ⊎-elim, inl, inr}
-use Prim.Native.Nat.{ℕ, _+_, _*_, _≤_, _<_}
+use Prim.Native.Nat.{ℕ, _*_, _≤_, _<_}
 use native.Mathlib.Omega.{arith}
 use lib.Dec.{ltb, leb, eqb}
-use lib.ListN.{length}
 use borrow.Author.Tests.{ltb-true, leb-true, eqb-true, ltb-false, eqb-false, lt-ltb, le-ltb, le-leb, lt-leb, eq-eqb, ne-eqb}
 use Rattle.field.specs.Told.{Told, accepted, refused}
-use Rattle.field.specs.Field.{p}
 use Rattle.trace.specs.declared.CircuitEvaluation.{CircuitEvaluation}
-use Rattle.trace.specs.Counts.{mostWires, wires, ofCounts, nodeCells, room, withRoom}
-use Rattle.trace.specs.State.{wiresOf, madeOf, nextId, isAccepted, sound, readTurn, evalTurn, inTurn}
-use Rattle.trace.specs.Outcome.{Lent, lent, fits}
+use Rattle.trace.specs.Counts.{mostWires, wires, ofCounts, nodeCells, room}
+use Rattle.trace.specs.State.{wiresOf, madeOf, nextId, isAccepted, sound, readTurn, evalTurn}
 use Rattle.trace.proofs.Choices.{both, both-hold, first-fails, second-fails, first-holds, either, either-holds, not-stopped}
 
 -- counts that opening accepts

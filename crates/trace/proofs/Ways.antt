@@ -1,7 +1,7 @@
 -- Laws by which `do_read` and `do_eval` come to what their contracts say, way by way.
 -- Assumes nothing.
 use mathlib.Core.Path.{_≡_, refl, sym, ap, _∙_, subst}
-use mathlib.Core.Bool.{Bool, true, false, cond, _&&_}
+use mathlib.Core.Bool.{true}
 use mathlib.Core.List.{List, [], _∷_}
 use mathlib.Core.Logic.{⊎-elim}
 use Prim.Native.Nat.{ℕ, _+_, _-_, _*_, _^_, _≤_, _<_}
@@ -11,24 +11,24 @@ use lib.ListN.{length, getD}
 use borrow.Author.Tests.{ltb-true}
 use Rattle.field.specs.Told.{Told, accepted, refused}
 use Rattle.field.specs.Field.{p, subF, firstOver}
-use Rattle.field.specs.Pair.{Pair, pair, Elements, cells}
+use Rattle.field.specs.Pair.{Pair, pair, Elements}
 use Rattle.field.specs.Answer.{ofElements, pairOf}
 use Rattle.field.proofs.Cases.{below?}
 use Rattle.field.proofs.Over.{over-below, refused-at}
 use Rattle.instruction.specs.Decode.{leftId, rightId, opcode, decodeAnswer}
 use Rattle.instruction.proofs.Laws.{not-instruction, instruction}
 use Rattle.trace.specs.declared.CircuitEvaluation.{CircuitEvaluation}
-use Rattle.trace.specs.Counts.{mostWires, room}
+use Rattle.trace.specs.Counts.{mostWires}
 use Rattle.trace.specs.State.{wiresOf, madeOf, readTurn, evalTurn}
-use Rattle.trace.specs.Outcome.{Lent, lent, outcome, fits, unlessRefused, valueAt}
-use Rattle.trace.specs.Read.{readHanded, readTests, readMade, readStep, firstPair, secondPair}
-use Rattle.trace.specs.Eval.{evalTests, atGate, position, isMade, storedAnswer, operandAnswer, operand, raised, evalMade, operandsStep, evalStep}
+use Rattle.trace.specs.Outcome.{Lent, lent, outcome, fits, valueAt}
+use Rattle.trace.specs.Read.{readTests, readMade, readStep, firstPair, secondPair}
+use Rattle.trace.specs.Eval.{evalTests, position, isMade, storedAnswer, operandAnswer, operand, raised, evalMade, operandsStep, evalStep}
 use Rattle.trace.specs.declared.wire_bus.WireBus.{WireBus}
 use Rattle.trace.specs.declared.wire_bus.Operand.{Operand}
 use Rattle.trace.specs.declared.wire_bus.Operand.the-variants as operands
 use Rattle.trace.specs.Inside.{operandTold, countsAfter, busOf, BusRoom, Room, ReadReady, EvalReady}
 use Rattle.trace.proofs.Choices.{both, passes}
-use Rattle.trace.proofs.Tests.{Sound, Counts, Fits, read-turn-of, eval-turn-of, room-of}
+use Rattle.trace.proofs.Tests.{Counts, read-turn-of, eval-turn-of, room-of}
 
 -- numbers that were looked at and found to be elements
 elements-of : (xs vs : List ℕ) (t : Told) → ofElements xs t ≡ accepted vs → length xs ≤ firstOver xs

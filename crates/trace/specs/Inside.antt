@@ -15,7 +15,7 @@ use Rattle.trace.specs.declared.wire_bus.Operand.{Operand}
 use Rattle.trace.specs.declared.wire_bus.Operand.the-variants as operand
 use Rattle.trace.specs.declared.nodes.ReadNode.{ReadNode}
 use Rattle.trace.specs.declared.nodes.EvalNode.{EvalNode}
-use Rattle.trace.specs.Counts.{mostWires, wires, nodeCells}
+use Rattle.trace.specs.Counts.{mostWires, nodeCells}
 use Rattle.trace.specs.State.{wiresOf, madeOf}
 use Rattle.trace.specs.Read.{readNode}
 use Rattle.trace.specs.Eval.{evalNode, raised}

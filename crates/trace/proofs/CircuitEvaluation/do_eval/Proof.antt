@@ -1,31 +1,23 @@
-use Rattle.trace.proofs.Ways.{Taken, room-kept, bus-room, eval-refused, eval-ready, eval-undecoded, eval-operands, left-refused, left-taken, right-refused, right-taken, both-taken}
-use Rattle.trace.specs.Inside.{testedTold, operandTold, countsAfter, Room, EvalReady}
-use Rattle.trace.specs.Eval.{evalTests, position, operandAnswer, operand, raised, counted}
-use Rattle.trace.specs.Outcome.{Lent, lent, fits}
-use Rattle.trace.specs.State.{wiresOf, madeOf}
-use Rattle.trace.specs.declared.wire_bus.WireBus.{WireBus}
-use Rattle.trace.specs.declared.CircuitEvaluation.{CircuitEvaluation}
-use Rattle.instruction.specs.declared.Op.{Op}
-use Rattle.instruction.specs.Decode.{opNumber, decodeTold, decodeAnswer}
-use Rattle.field.specs.Pair.{pair}
-use Rattle.field.specs.Told.{Told, accepted}
-use native.Mathlib.Omega.{arith}
-use denote.Ref.{now}
-use lib.ListN.{length}
-use Prim.Native.Nat.{ℕ}
+-- `trace::CircuitEvaluation::do_eval` meets its contract.
+-- Assumes nothing.
 use mathlib.Core.List.{List, [], _∷_}
 use mathlib.Core.Path.{_≡_, sym, ap, _∙_}
+use Prim.Native.Nat.{ℕ}
+use native.Mathlib.Omega.{arith}
+use denote.Ref.{now}
 use borrow.Author.Needs.{needs}
-use Rattle.trace.proofs.CircuitEvaluation.do_eval.Statement.{statement}
+use Rattle.field.specs.Told.{accepted}
+use Rattle.instruction.specs.declared.Op.{Op}
+use Rattle.instruction.specs.Decode.{opNumber, decodeTold, decodeAnswer}
+use Rattle.trace.specs.Inside.{testedTold, operandTold, countsAfter, Room, EvalReady}
+use Rattle.trace.specs.Eval.{evalTests, position, operandAnswer, operand}
+use Rattle.trace.specs.Outcome.{Lent, lent, fits}
+use Rattle.trace.specs.State.{wiresOf}
+use Rattle.trace.specs.declared.wire_bus.WireBus.{WireBus}
+use Rattle.trace.specs.declared.CircuitEvaluation.{CircuitEvaluation}
+use Rattle.trace.proofs.Ways.{room-kept, bus-room, eval-refused, eval-ready, eval-undecoded, eval-operands, left-refused, left-taken, right-refused, right-taken, both-taken}
 use Rattle.trace.proofs.CircuitEvaluation.do_eval.Tie as tie
-use Rattle.trace.proofs.CircuitEvaluation.do_eval.Reads as reads
-use Rattle.trace.proofs.CircuitEvaluation.do_eval.Lts as lts
-use Rattle.instruction.proofs.decode_instruction.Reads as decode-instruction-reads
-use Rattle.trace.proofs.CircuitEvaluation.gate.Reads as gate-reads
-use Rattle.trace.proofs.CircuitEvaluation.test_eval.Reads as test-eval-reads
-use Rattle.trace.proofs.CircuitEvaluation.wire_bus.Reads as wire-bus-reads
-use Rattle.trace.proofs.operation.before.Reads as before-reads
-use Rattle.trace.proofs.wire_bus.WireBus.read_value.Reads as read-value-reads
+use Rattle.trace.proofs.CircuitEvaluation.do_eval.Statement.{statement}
 
 -- past 13, 6 and 7
 abbrev start : tie.After-enum-told → tie.Start
@@ -48,16 +40,16 @@ abbrev at-tests : tie.After-wire-bus → tie.After-enum-told
 at-tests c = c .before .before .before .before .before .before
 
 abbrev left-id : tie.After-wire-bus → ℕ
-left-id c = c .before .before .before .decoded .given .0 .0
+left-id c = c .before .before .decoded .given .0 .0
 
 abbrev right-id : tie.After-wire-bus → ℕ
-right-id c = c .before .before .before .decoded .given .0 .1 .0
+right-id c = c .before .before .decoded .given .0 .1 .0
 
 abbrev op : tie.After-wire-bus → Op
-op c = c .before .before .before .decoded .given .0 .1 .1 .0
+op c = c .before .before .decoded .given .0 .1 .1 .0
 
 decoded : (c : tie.After-wire-bus) → accepted (left-id c ∷ right-id c ∷ opNumber (op c) ∷ []) ≡ decodeAnswer (start (at-tests c) .args .instruction)
-decoded c = ap decodeTold (sym (c .before .before .before .decoded .given .1)) ∙ c .before .before .before .before .before .decode-instruction .ensures
+decoded c = ap decodeTold (sym (c .before .before .decoded .given .1)) ∙ c .before .before .before .before .decode-instruction .ensures
 
 abbrev s₀ : tie.After-wire-bus → CircuitEvaluation
 s₀ c = state (at-tests c)
@@ -114,149 +106,114 @@ right-raise c =
 room₂ : (c : tie.After-read-value2) → Room (s₀ (w₂ c)) (b₀ (w₂ c) .values) (counts₂ c) (b₀ (w₂ c) .nodes)
 room₂ c = room-kept _ _ _ _ _ (c .read-value2 .kept .1 .1 .1 .1 .1 .0) (room₁ (left-look (at-right c)))
 
--- src/lib.rt:152:13
 test-eval-requires : tie.Need-test-eval-requires
 test-eval-requires c κs = search needs
 
--- src/lib.rt:153:32
 enum-known-tested : tie.Need-enum-known-tested
 enum-known-tested c = search needs
 
--- src/lib.rt:154:13
 returns : tie.Need-returns
 returns c = eval-refused _ _ _ _ _ _ (ap testedTold (sym (c .before .tested .given .1)) ∙ c .before .before .before .test-eval .ensures)
 
 enum-told : tie.Need-enum-told
 enum-told c = search needs
 
--- src/lib.rt:156:13
-decode-instruction-requires : tie.Need-decode-instruction-requires
-decode-instruction-requires c κs = search needs
-
--- src/lib.rt:157:39
-enum-known-decoded : tie.Need-enum-known-decoded
-enum-known-decoded c = search needs
-
--- src/lib.rt:158:63
-enum-told-2 : tie.Need-enum-told-2
-enum-told-2 c = search needs
-
--- src/lib.rt:158:63
-cast-t31 : tie.Need-cast-t31
-cast-t31 c = search needs
-
--- src/lib.rt:158:13
-returns-2 : tie.Need-returns-2
-returns-2 c = eval-undecoded _ _ _ _ (tested (c .before .before .before .before)) _ _ (ap decodeTold (sym (c .before .enum-told2 .given .1)) ∙ c .before .before .before .decode-instruction .ensures)
-
--- src/lib.rt:160:20
 cast-gate : tie.Need-cast-gate
 cast-gate c = search needs
 
--- src/lib.rt:161:13
+decode-instruction-requires : tie.Need-decode-instruction-requires
+decode-instruction-requires c κs = search needs
+
+enum-known-decoded : tie.Need-enum-known-decoded
+enum-known-decoded c = search needs
+
+enum-told-2 : tie.Need-enum-told-2
+enum-told-2 c = search needs
+
+returns-2 : tie.Need-returns-2
+returns-2 c = eval-undecoded _ _ _ _ (tested (c .before .before .before .before)) _ _ (ap decodeTold (sym (c .enum-told2 .given .1)) ∙ c .before .before .decode-instruction .ensures)
+
 wire-bus-requires : tie.Need-wire-bus-requires
 wire-bus-requires c κs = search needs
 
--- src/lib.rt:164:35
 cast-read-value : tie.Need-cast-read-value
 cast-read-value c = search needs
 
--- src/lib.rt:164:13
 read-value-requires : tie.Need-read-value-requires
 read-value-requires c κs = let h = ready (at-tests (c .before .before)) in bus-room _ _ _ _ _ (c .before .before .wire-bus .ensures) (h .0) (h .1)
 
--- src/lib.rt:166:28
 enum-known-left : tie.Need-enum-known-left
 enum-known-left c = search needs
 
--- src/lib.rt:167:30
 enum-known-left-2 : tie.Need-enum-known-left-2
 enum-known-left-2 c = search needs
 
--- src/lib.rt:167:48
 same-length : tie.Need-same-length
 same-length c = search needs
 
--- src/lib.rt:167:48
 same-length-2 : tie.Need-same-length-2
 same-length-2 c = search needs
 
--- src/lib.rt:167:48
 returns-3 : tie.Need-returns-3
-returns-3 c = 
+returns-3 c =
     let r = c .before .before .before .before .before in
     left-refused (s₀ (at-left r)) (ptr (at-left r)) (left-id (at-left r)) (right-id (at-left r)) (opNumber (op (at-left r))) (b₀ (at-left r)) _ _ (left-told r) (left-raise r) _ _ (c .before .left2 .given .1)
     ∙ eval-operands (s₀ (at-left r)) (ptr (at-left r)) _ (b₀ (at-left r)) (tested (at-tests (at-left r))) _ _ _ (decoded (at-left r))
 
--- src/lib.rt:169:36
 cast-read-value-2 : tie.Need-cast-read-value-2
 cast-read-value-2 c = search needs
 
--- src/lib.rt:169:13
 read-value-requires-2 : tie.Need-read-value-requires-2
-read-value-requires-2 c κs = 
+read-value-requires-2 c κs =
     let r = c .before .before .before .before .before .before .before in
     bus-room _ _ _ _ _ (at-left r .wire-bus .ensures) (room₁ r) (ready (at-tests (at-left r)) .1)
 
--- src/lib.rt:171:28
 enum-known-right : tie.Need-enum-known-right
 enum-known-right c = search needs
 
--- src/lib.rt:172:30
 enum-known-right-2 : tie.Need-enum-known-right-2
 enum-known-right-2 c = search needs
 
--- src/lib.rt:172:48
 same-length-3 : tie.Need-same-length-3
 same-length-3 c = search needs
 
--- src/lib.rt:172:48
 same-length-4 : tie.Need-same-length-4
 same-length-4 c = search needs
 
--- src/lib.rt:172:48
 returns-4 : tie.Need-returns-4
-returns-4 c = 
+returns-4 c =
     let q = c .before .before .before .before .before in
     let r = left-look (at-right q) in
     right-refused (s₀ (at-left r)) (ptr (at-left r)) (left-id (at-left r)) (right-id (at-left r)) (opNumber (op (at-left r))) (b₀ (at-left r)) _ _ (left-told r) (left-raise r) _ _ (at-right q .before .left .given .1) _ _ (right-told q) (right-raise q) _ _ (c .before .right2 .given .1)
     ∙ eval-operands (s₀ (at-left r)) (ptr (at-left r)) _ (b₀ (at-left r)) (tested (at-tests (at-left r))) _ _ _ (decoded (at-left r))
 
--- src/lib.rt:174:9
 gate-requires : tie.Need-gate-requires
-gate-requires c κs = 
+gate-requires c κs =
     let q = c .before .before .before .before .before .before .before .before in
-    let r = left-look (at-right q) in
-    (
+    let r = left-look (at-right q) in (
       room₂ q,
       ready (at-tests (at-left r)) .1,
       left-taken (s₀ (at-left r)) (ptr (at-left r)) (left-id (at-left r)) (right-id (at-left r)) (opNumber (op (at-left r))) (b₀ (at-left r)) _ _ (left-told r) (left-raise r) _ _ (at-right q .before .left .given .1) .elements,
       right-taken (s₀ (at-left r)) (ptr (at-left r)) (left-id (at-left r)) (right-id (at-left r)) (opNumber (op (at-left r))) (b₀ (at-left r)) _ _ (left-told r) (left-raise r) _ _ (at-right q .before .left .given .1) _ _ (right-told q) (right-raise q) _ _ (c .before .before .before .before .right .given .1) .elements,
     )
 
--- src/lib.rt:175:9
 add-self : tie.Need-add-self
 add-self c = let h = ready (at-tests (w₂ (c .before .before .before .before .before .before .before .before .before .before .before .before .before .before .before .before))) in omega arith
 
--- src/lib.rt:176:9
 before-requires : tie.Need-before-requires
 before-requires c κs = let h = ready (at-tests (w₂ (c .before .before .before .before .before .before .before .before .before .before .before .before .before .before .before .before))) in omega arith
 
--- src/lib.rt:142:5
 same-length-5 : tie.Need-same-length-5
 same-length-5 c = search needs
 
--- src/lib.rt:142:5
 same-length-6 : tie.Need-same-length-6
 same-length-6 c = search needs
 
--- src/lib.rt:142:5
 same-length-7 : tie.Need-same-length-7
 same-length-7 c = search needs
 
--- src/lib.rt:142:5
 returns-5 : tie.Need-returns-5
-returns-5 c = 
+returns-5 c =
     let q = c .before .before .before .before .before .before .before .before .before .before .before .before .before .before .before .before .before in
     let r = left-look (at-right q) in
     both-taken (s₀ (at-left r)) (ptr (at-left r)) (left-id (at-left r)) (right-id (at-left r)) (opNumber (op (at-left r))) (b₀ (at-left r)) _ _ (left-told r) (left-raise r) _ _ (at-right q .before .left .given .1) _ _ (right-told q) (right-raise q) _ _ (c .before .before .before .before .before .before .before .before .before .before .before .before .before .right .given .1) _ _ (c .before2 .ensures) (c .before .before .before .before .before .before .before .before .gate .ensures)
@@ -270,12 +227,11 @@ do-eval-spec =
     enum-known-tested
     returns
     enum-told
+    cast-gate
     decode-instruction-requires
     enum-known-decoded
     enum-told-2
-    cast-t31
     returns-2
-    cast-gate
     wire-bus-requires
     cast-read-value
     read-value-requires

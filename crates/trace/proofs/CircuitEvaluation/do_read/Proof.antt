@@ -1,21 +1,18 @@
-use Rattle.trace.proofs.Ways.{read-refused, read-ready, read-accepted}
+-- `trace::CircuitEvaluation::do_read` meets its contract.
+-- Assumes nothing.
+use mathlib.Core.List.{[]}
+use mathlib.Core.Path.{_≡_, sym, ap, _∙_}
+use native.Mathlib.Omega.{arith}
+use denote.Ref.{now}
+use borrow.Author.Needs.{needs}
+use Rattle.field.specs.Told.{accepted}
 use Rattle.trace.specs.Read.{readTests}
 use Rattle.trace.specs.Inside.{testedTold, Room, ReadReady}
 use Rattle.trace.specs.declared.CircuitEvaluation.{CircuitEvaluation}
 use Rattle.trace.specs.Outcome.{Lent, lent, fits}
-use Rattle.field.specs.Told.{accepted}
-use native.Mathlib.Omega.{arith}
-use denote.Ref.{now}
-use lib.ListN.{length}
-use mathlib.Core.List.{[]}
-use mathlib.Core.Path.{_≡_, sym, ap, _∙_}
-use borrow.Author.Needs.{needs}
-use Rattle.trace.proofs.CircuitEvaluation.do_read.Statement.{statement}
+use Rattle.trace.proofs.Ways.{read-refused, read-ready, read-accepted}
 use Rattle.trace.proofs.CircuitEvaluation.do_read.Tie as tie
-use Rattle.trace.proofs.CircuitEvaluation.do_read.Reads as reads
-use Rattle.trace.proofs.CircuitEvaluation.do_read.Lts as lts
-use Rattle.trace.proofs.CircuitEvaluation.read.Reads as read-reads
-use Rattle.trace.proofs.CircuitEvaluation.test_read.Reads as test-read-reads
+use Rattle.trace.proofs.CircuitEvaluation.do_read.Statement.{statement}
 
 -- past the tests
 abbrev start : tie.After-enum-told → tie.Start
@@ -33,54 +30,42 @@ tested c = ap testedTold (sym (c .enum-told .given .1)) ∙ c .before .before .t
 ready : (c : tie.After-enum-told) → Room (state c) (buffers c .values) (buffers c .counts) (buffers c .nodes) × ReadReady (state c)
 ready c = read-ready _ _ _ _ (tested c)
 
--- src/lib.rt:132:13
 test-read-requires : tie.Need-test-read-requires
 test-read-requires c κs = search needs
 
--- src/lib.rt:133:32
 enum-known-tested : tie.Need-enum-known-tested
 enum-known-tested c = search needs
 
--- src/lib.rt:134:13
 returns : tie.Need-returns
 returns c = read-refused _ _ _ _ _ _ (ap testedTold (sym (c .before .tested .given .1)) ∙ c .before .before .before .test-read .ensures)
 
 enum-told : tie.Need-enum-told
 enum-told c = search needs
 
--- src/lib.rt:136:24
 array-copy-out-read : tie.Need-array-copy-out-read
 array-copy-out-read c = search needs
 
--- src/lib.rt:136:33
 array-copy-out-read-2 : tie.Need-array-copy-out-read-2
 array-copy-out-read-2 c = search needs
 
--- src/lib.rt:136:9
 read-requires : tie.Need-read-requires
 read-requires c κs = ready (c .before .before .before .before .before)
 
--- src/lib.rt:137:9
 add-self : tie.Need-add-self
 add-self c = let h = ready (c .before .before .before .before .before .before .before .before .before .before .before .before .before) in omega arith
 
--- src/lib.rt:138:9
 sub-self : tie.Need-sub-self
 sub-self c = let h = ready (c .before .before .before .before .before .before .before .before .before .before .before .before .before .before) in omega arith
 
--- src/lib.rt:122:5
 same-length : tie.Need-same-length
 same-length c = search needs
 
--- src/lib.rt:122:5
 same-length-2 : tie.Need-same-length-2
 same-length-2 c = search needs
 
--- src/lib.rt:122:5
 same-length-3 : tie.Need-same-length-3
 same-length-3 c = search needs
 
--- src/lib.rt:122:5
 returns-2 : tie.Need-returns-2
 returns-2 c = let h = ready (c .before .before .before .before .before .before .before .before .before .before .before .before .before .before) in read-accepted _ _ _ _ (tested (c .before .before .before .before .before .before .before .before .before .before .before .before .before .before)) _ _ (omega arith) (c .before .before .before .before .before .before .before .before .read .ensures)
 

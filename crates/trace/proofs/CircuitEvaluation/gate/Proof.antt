@@ -1,75 +1,56 @@
-use Rattle.instruction.specs.Decode.{opNumber}
-use denote.Ref.{now}
-use Rattle.trace.proofs.Writes.{gate-made}
-use Rattle.trace.specs.declared.wire_bus.WireBus.{WireBus}
+-- `trace::CircuitEvaluation::gate` meets its contract.
+-- Assumes nothing.
+use mathlib.Core.Path.{ap}
 use native.Mathlib.Omega.{arith}
-use mathlib.Core.Path.{_≡_, sym, ap, _∙_}
+use denote.Ref.{now}
 use borrow.Author.Needs.{needs}
-use Rattle.trace.proofs.CircuitEvaluation.gate.Statement.{statement}
+use Rattle.instruction.specs.Decode.{opNumber}
+use Rattle.trace.specs.declared.wire_bus.WireBus.{WireBus}
+use Rattle.trace.proofs.Writes.{gate-made}
 use Rattle.trace.proofs.CircuitEvaluation.gate.Tie as tie
-use Rattle.trace.proofs.CircuitEvaluation.gate.Reads as reads
-use Rattle.trace.proofs.CircuitEvaluation.gate.Lts as lts
-use Rattle.trace.proofs.CircuitEvaluation.wire_bus.Reads as wire-bus-reads
-use Rattle.trace.proofs.nodes.EvalNode.put.Reads as put-reads
-use Rattle.trace.proofs.operation.apply.Reads as apply-reads
-use Rattle.trace.proofs.operation.eval_op.Reads as eval-op-reads
-use Rattle.trace.proofs.wire_bus.WireBus.insert.Reads as insert-reads
+use Rattle.trace.proofs.CircuitEvaluation.gate.Statement.{statement}
 
--- src/steps.rt:71:13
 wire-bus-requires : tie.Need-wire-bus-requires
 wire-bus-requires c κs = search needs
 
--- src/steps.rt:72:13
 apply-requires : tie.Need-apply-requires
 apply-requires c κs = search needs
 
--- src/steps.rt:73:9
 insert-requires : tie.Need-insert-requires
 insert-requires c κs = let h = c .before .before .before .before .before .before .before .pre in let m = (ap (λ (w : WireBus). w .made) (c .before .before .before .wire-bus .ensures)) in (omega arith, omega arith)
 
--- src/steps.rt:76:22
 eval-op-requires : tie.Need-eval-op-requires
 eval-op-requires c κs = search needs
 
--- src/steps.rt:86:17
 cast-put : tie.Need-cast-put
 cast-put c = search needs
 
--- src/steps.rt:86:13
 mul-put : tie.Need-mul-put
 mul-put c = search needs
 
--- src/steps.rt:86:47
 cast-put-2 : tie.Need-cast-put-2
 cast-put-2 c = search needs
 
--- src/steps.rt:86:42
 mul-put-2 : tie.Need-mul-put-2
 mul-put-2 c = search needs
 
--- src/steps.rt:86:13
 add-put : tie.Need-add-put
 add-put c = search needs
 
--- src/steps.rt:84:9
 put-requires : tie.Need-put-requires
 put-requires c κs = search needs
 
--- src/steps.rt:56:5
 same-length : tie.Need-same-length
 same-length c = search needs
 
--- src/steps.rt:56:5
 same-length-2 : tie.Need-same-length-2
 same-length-2 c = search needs
 
--- src/steps.rt:56:5
 same-length-3 : tie.Need-same-length-3
 same-length-3 c = search needs
 
--- src/steps.rt:56:5
 returns : tie.Need-returns
-returns c = 
+returns c =
     let a = c .before .before .before .before .before .before .before .before .before .before .before .before .before .before .before .before .before .before .before .args in
     gate-made
     (a .self)

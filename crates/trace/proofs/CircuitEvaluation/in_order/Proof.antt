@@ -1,14 +1,12 @@
+-- `trace::CircuitEvaluation::in_order` meets its contract.
+-- Assumes nothing.
 use borrow.Author.Tests.{eq-eqb, ne-eqb}
-use Rattle.trace.proofs.CircuitEvaluation.in_order.Statement.{statement}
 use Rattle.trace.proofs.CircuitEvaluation.in_order.Tie as tie
-use Rattle.trace.proofs.CircuitEvaluation.in_order.Reads as reads
-use Rattle.trace.proofs.CircuitEvaluation.in_order.Lts as lts
+use Rattle.trace.proofs.CircuitEvaluation.in_order.Statement.{statement}
 
--- src/state.rt:97:13
 returns : tie.Need-returns
 returns c = rw (eq-eqb _ _ (c .if1 .taken))
 
--- src/state.rt:93:5
 returns-2 : tie.Need-returns-2
 returns-2 c = rw (ne-eqb _ _ (c .before .if1 .left))
 

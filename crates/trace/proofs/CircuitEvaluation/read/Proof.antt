@@ -1,60 +1,46 @@
-use denote.Ref.{now}
-use Rattle.trace.proofs.Writes.{read-made}
-use Rattle.trace.specs.declared.wire_bus.WireBus.{WireBus}
+-- `trace::CircuitEvaluation::read` meets its contract.
+-- Assumes nothing.
+use mathlib.Core.Path.{ap}
 use native.Mathlib.Omega.{arith}
-use mathlib.Core.Path.{_≡_, sym, ap, _∙_}
+use denote.Ref.{now}
 use borrow.Author.Needs.{needs}
-use Rattle.trace.proofs.CircuitEvaluation.read.Statement.{statement}
+use Rattle.trace.specs.declared.wire_bus.WireBus.{WireBus}
+use Rattle.trace.proofs.Writes.{read-made}
 use Rattle.trace.proofs.CircuitEvaluation.read.Tie as tie
-use Rattle.trace.proofs.CircuitEvaluation.read.Reads as reads
-use Rattle.trace.proofs.CircuitEvaluation.read.Lts as lts
-use Rattle.trace.proofs.CircuitEvaluation.wire_bus.Reads as wire-bus-reads
-use Rattle.trace.proofs.nodes.ReadNode.put.Reads as put-reads
-use Rattle.trace.proofs.wire_bus.WireBus.insert.Reads as insert-reads
+use Rattle.trace.proofs.CircuitEvaluation.read.Statement.{statement}
 
--- src/steps.rt:41:13
 wire-bus-requires : tie.Need-wire-bus-requires
 wire-bus-requires c κs = search needs
 
--- src/steps.rt:43:13
 insert-requires : tie.Need-insert-requires
 insert-requires c κs = let h = c .before .before .before .before .before .before .pre in let m = (ap (λ (w : WireBus). w .made) (c .before .before .wire-bus .ensures)) in (omega arith, omega arith)
 
--- src/steps.rt:44:9
 insert-requires-2 : tie.Need-insert-requires-2
 insert-requires-2 c κs = let h = c .before .before .before .before .before .before .before .before .before .before .before .before .before .pre in let m = (ap (λ (w : WireBus). w .made) (c .before .before .before .before .before .before .before .before .before .wire-bus .ensures)) in let n = ap (λ (w : WireBus). w .made) (c .before .before .before .before .before .before .insert .ensures .0) in let k = c .before .before .before .before .before .before .insert .kept in (omega arith, omega arith)
 
--- src/steps.rt:49:19
 sub-t21 : tie.Need-sub-t21
 sub-t21 c = search needs
 
--- src/steps.rt:52:29
 cast-put : tie.Need-cast-put
 cast-put c = search needs
 
--- src/steps.rt:52:25
 mul-put : tie.Need-mul-put
 mul-put c = search needs
 
--- src/steps.rt:52:9
 put-requires : tie.Need-put-requires
 put-requires c κs = search needs
 
--- src/steps.rt:29:5
 same-length : tie.Need-same-length
 same-length c = search needs
 
--- src/steps.rt:29:5
 same-length-2 : tie.Need-same-length-2
 same-length-2 c = search needs
 
--- src/steps.rt:29:5
 same-length-3 : tie.Need-same-length-3
 same-length-3 c = search needs
 
--- src/steps.rt:29:5
 returns : tie.Need-returns
-returns c = 
+returns c =
     let a = c .before .before .before .before .before .before .before .before .before .before .before .before .before .before .before .before .before .before .before .before .before .before .before .args in
     let i = c .before .before .before .before .before .before .before .before .before .before .before .before .before .before .before .before .insert .ensures in
     let j = c .before .before .before .before .before .before .before .before .before .insert2 .ensures in
