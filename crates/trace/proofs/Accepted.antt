@@ -4,15 +4,14 @@ use mathlib.Core.Path.{_≡_, refl, sym, ap, _∙_}
 use mathlib.Core.Bool.{true, false, cond}
 use mathlib.Core.List.{List, [], _∷_}
 use mathlib.Core.Logic.{_⊎_, ⊎-elim, inl, inr}
-use Prim.Native.Nat.{ℕ, _+_, _-_, _*_, _^_, _≤_, _<_}
+use Prim.Native.Nat.{ℕ, _+_, _-_, _*_, _^_, _<_}
 use native.Mathlib.Omega.{arith}
-use lib.Dec.{ltb}
-use borrow.Author.Tests.{ltb-true, ltb-false}
+use borrow.Author.Tests.{ltb-true}
 use lib.ListN.{length, getD}
 use Rattle.field.specs.Told.{Told, accepted, refused}
-use Rattle.field.specs.Field.{p, firstOver}
-use Rattle.field.specs.Answer.{ofElements, pairOf}
-use Rattle.field.proofs.Over.{over-below}
+use Rattle.field.specs.Field.{p}
+use Rattle.field.specs.Answer.{pairOf}
+use Rattle.field.proofs.Over.{elements-of}
 use Rattle.instruction.specs.Decode.{leftId, rightId, opcode, decodeAnswer}
 use Rattle.instruction.proofs.Laws.{decodes-small}
 use Rattle.trace.specs.declared.CircuitEvaluation.{CircuitEvaluation}
@@ -21,9 +20,9 @@ use Rattle.trace.specs.Outcome.{Lent, Outcome, outcome, fits, unlessRefu
 use Rattle.trace.specs.Read.{firstPair, secondPair, readHanded, readTests, readDone, readMade, readStep}
 use Rattle.trace.specs.Eval.{evalTests, atGate, position, storedAnswer, operandAnswer, operand, counted, gateStep, operandsStep, evalStep}
 use Rattle.trace.specs.Calls.{leftCounted}
-use Rattle.trace.proofs.Choices.{both, passes, not-stopped}
+use Rattle.trace.proofs.Choices.{both, passes}
 use Rattle.trace.proofs.Ways as ways
-use Rattle.trace.proofs.Tests.{Sound, Fits, read-turn-of, eval-turn-of, room-of}
+use Rattle.trace.proofs.Tests.{Sound, Fits, told-accepted, read-turn-of, eval-turn-of, room-of}
 
 -- ---- an answer is one or the other
 
@@ -34,20 +33,9 @@ told? (refused n k) = inr (n, k, refl)
 not-both : (t : Told) (vs : List ℕ) (number place : ℕ) → t ≡ accepted vs → t ≡ refused number place → ⊥
 not-both t vs n k e f = let z : _≡_ {A = ℕ} 0 1 = cc in absurd (omega arith)
 
-accepts : (t : Told) → isAccepted t ≡ true → (vs : List ℕ) × (t ≡ accepted vs)
-accepts (accepted vs) e = (vs, refl)
-accepts (refused n k) e = let z : _≡_ {A = ℕ} 0 1 = cc in absurd (omega arith)
-
 at-gate : (gate : ℕ) (t : Told) → ((vs : List ℕ) × (atGate gate t ≡ accepted vs) × (t ≡ accepted vs)) ⊎ ((number : ℕ) × (atGate gate t ≡ refused number gate) × (isAccepted t ≡ false))
 at-gate gate (accepted vs) = inl (vs, refl, refl)
 at-gate gate (refused n k) = inr (n, refl, refl)
-
-elements-of : (xs vs : List ℕ) (t : Told) → ofElements xs t ≡ accepted vs → (k : ℕ) → k < length xs → getD xs k 0 < p
-unfolding ofElements
-elements-of xs vs t e k h =
-    let a = not-stopped (ltb (firstOver xs) (length xs)) t 7 (firstOver xs) vs e in
-    let l : length xs ≤ firstOver xs = ltb-false _ _ (a .0) in
-    over-below xs k (omega arith)
 
 -- a step that was not refused yet goes on, and one that was does not
 goes-on : (t : Told) (s : CircuitEvaluation) (b : Lent) (o : Outcome) (vs : List ℕ) → t ≡ accepted vs → unlessRefused t s b o ≡ o
@@ -196,9 +184,9 @@ module _ (s : CircuitEvaluation) (ptr word : ℕ) (b : Lent) where
   left-taken e =
       let a = both _ _ e in
       let d = both _ _ (a .1) in
-      let vs = accepts _ (a .0) in
-      let us = accepts _ (d .0) in
-      let ls = accepts _ (d .1) in
+      let vs = told-accepted _ (a .0) in
+      let us = told-accepted _ (d .0) in
+      let ls = told-accepted _ (d .1) in
       taken-of (vs .0) (us .0) (ls .0) (vs .1) (us .1) (ls .1)
 
   left-not-counted : (n k : ℕ) → evalStep s ptr word b ≡ outcome (refused n k) s b → leftCounted s ptr word b ≡ false → EvalRefused s ptr word b
