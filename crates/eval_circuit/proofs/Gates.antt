@@ -1,0 +1,2 @@
+-- Laws of the gates' answers: which gate is accepted, and which refusal comes first.
+-- Assumes nothing.
