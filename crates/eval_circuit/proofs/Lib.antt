@@ -1,2 +1,4 @@
 pub mod Values
 pub mod Gates
+pub mod Each
+pub mod Region
