@@ -1,1 +1,5 @@
+pub mod Values
+pub mod Gates
+pub mod Each
+pub mod RegionCells
 pub mod RegionTests
