@@ -3,3 +3,7 @@ pub mod Gates
 pub mod Each
 pub mod RegionCells
 pub mod RegionTests
+pub mod Fills
+pub mod Stages
+pub mod GateSteps
+pub mod Turns
