@@ -239,8 +239,8 @@ module _ (s : CircuitEvaluation) (memory : List ℕ) (ptr : ℕ) (b : Lent) (ok 
           left = lent (here .values) once (here .nodes);
           stopped = gate-right c k word-below o l r;
           ends = sym (right-refused state at left right (opcode (word c k)) here (operands.Value (value c left .c0) (value c left .c1)) once left-there refl _ _ refl
-          (operands.Refused 10 k) once (not-there 10 k (numWires c) n right (here .values) once r) refl 10 k refl
-          ∙ operands-first);
+              (operands.Refused 10 k) once (not-there 10 k (numWires c) n right (here .values) once r) refl 10 k refl
+              ∙ operands-first);
           past = record { past-values = here-past .past-values; past-counts = once-past; past-nodes = here-past .past-nodes };
         }
 
@@ -267,7 +267,7 @@ module _ (s : CircuitEvaluation) (memory : List ℕ) (ptr : ℕ) (b : Lent) (ok 
               let x = names-at (numWires c) left j lw (omega arith) in
               let y = names-at (numWires c) right j rw′ (omega arith) in
               let z : namedBy k c (idAt c j) + names (position (numWires c) left) j + names (position (numWires c) right) j
-                  ≡ namedBy k c (idAt c j) + (names (leftId (word c k)) (idAt c j) + names (rightId (word c k)) (idAt c j)) = omega arith in
+              ≡ namedBy k c (idAt c j) + (names (leftId (word c k)) (idAt c j) + names (rightId (word c k)) (idAt c j)) = omega arith in
               ap (λ (v : ℕ). v ∷ []) z))
 
           module _ (early : (j : ℕ) → j ≤ k → Early c j) where
@@ -323,10 +323,10 @@ module _ (s : CircuitEvaluation) (memory : List ℕ) (ptr : ℕ) (b : Lent) (ok 
                 record {
                   passed = gate-accepted c k word-below o l r;
                   leads = sym (both-taken state at left right (opcode (word c k)) here
-                  (operands.Value (value c left .c0) (value c left .c1)) once left-there refl _ _ refl
-                  (operands.Value (value c right .c0) (value c right .c1)) twice right-there refl _ _ refl
-                  _ _ id made-next
-                  ∙ operands-first);
+                      (operands.Value (value c left .c0) (value c left .c1)) once left-there refl _ _ refl
+                      (operands.Value (value c right .c0) (value c right .c1)) twice right-there refl _ _ refl
+                      _ _ id made-next
+                      ∙ operands-first);
                 }
 
     -- gate k's step, where the gates before it are accepted

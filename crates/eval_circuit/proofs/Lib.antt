@@ -7,3 +7,5 @@ pub mod Fills
 pub mod Stages
 pub mod GateSteps
 pub mod Turns
+pub mod Runs
+pub mod Whole

@@ -47,11 +47,20 @@ module _ (s : CircuitEvaluation) (memory : List ℕ) (ptr : ℕ) (b : Lent) (ok 
   abbrev c : Circuit
   c = circuitOf s memory ptr
 
-  pub read-turn : (r : StepAnswer) (left : Lent) (i at : ℕ) (t : CircuitEvaluation) (w : List (List ℕ)) (here : Lent) → i < s .«num_read»
-      → stepOutcome r left ≡ readStep t at w here → t ≡ after s i 0 → at ≡ ptr + 4 * i → w ≡ wordAt memory at → here ≡ stage c ptr i 0 b
-      → stepOutcome r left ≡ outcome (accepted []) (after s (i + 1) 0) (stage c ptr (i + 1) 0 b)
-  read-turn r left i at t w here h q et ea ew eh =
-      q ∙ rw (et, ew, ea, eh) (read-next s memory ptr b ok i h)
+  module _ (r : StepAnswer) (left : Lent) (i at : ℕ) (t : CircuitEvaluation) (w : List (List ℕ)) (here : Lent) (h : i < s .«num_read»)
+      (q : stepOutcome r left ≡ readStep t at w here) (et : t ≡ after s i 0) (ea : at ≡ ptr + 4 * i) (ew : w ≡ wordAt memory at) (eh : here ≡ stage c ptr i 0 b) where
+    read-is : stepOutcome r left ≡ outcome (accepted []) (after s (i + 1) 0) (stage c ptr (i + 1) 0 b)
+    read-is = q ∙ rw (et, ew, ea, eh) (read-next s memory ptr b ok i h)
+
+    pub read-on : (u : CircuitEvaluation) → r ≡ Done u → (u ≡ after s (i + 1) 0) × (left ≡ stage c ptr (i + 1) 0 b)
+    read-on u d = done-is r u _ left _ read-is d
+
+    pub read-off : (u : CircuitEvaluation) (n j : ℕ) (o : Outcome) → r ≡ Refused u n j → stepOutcome r left ≡ o
+    read-off u n j o d = not-refused r u _ n j left _ read-is d
+
+  pub reads-end : (i : ℕ) (t : CircuitEvaluation) (d : Lent) → i ≡ s .«num_read» → t ≡ after s i 0 → d ≡ stage c ptr i 0 b
+      → outcome (accepted []) t d ≡ outcome (accepted []) (after s (s .«num_read») 0) (stage c ptr (s .«num_read») 0 b)
+  reads-end i t d e et ed = rw (et, ed, e)
 
   -- what the gates before gate k say
   abbrev pub Gone : ℕ → Type 0
@@ -96,5 +105,9 @@ module _ (s : CircuitEvaluation) (memory : List ℕ) (ptr : ℕ) (b : Lent) (ok 
       (λ (l : k ≤ j). let q : k ≡ j = omega arith in subst (λ (i : ℕ). gateAnswer c i ≡ accepted []) q e)
       (below? j k)
 
-  pub all-gone : Gone (s .«num_eval») → accepted [] ≡ gatesAnswer (s .«num_eval») 0 c (accepted [])
-  all-gone g = sym (gates-pass c (accepted []) (s .«num_eval») 0 (λ j _ h. g j (omega arith)))
+  pub evals-end : (k : ℕ) (t : CircuitEvaluation) (d : Lent) → k ≡ s .«num_eval» → t ≡ after s (s .«num_read») k → d ≡ stage c ptr (s .«num_read») k b → Gone k
+      → (accepted [] ≡ gatesAnswer (s .«num_eval») 0 c (accepted [])) × Left (Done t) s c ptr d b
+  evals-end k t d e et ed g = (
+    sym (gates-pass c (accepted []) (s .«num_eval») 0 (λ j _ h. g j (omega arith))),
+    (et ∙ ap (λ (n : ℕ). after s (s .«num_read») n) e, ed ∙ ap (λ (n : ℕ). stage c ptr (s .«num_read») n b) e),
+  )
