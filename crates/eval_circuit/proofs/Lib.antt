@@ -2,3 +2,4 @@ pub mod Values
 pub mod Gates
 pub mod Each
 pub mod Region
+pub mod Accepted
