@@ -3,3 +3,5 @@ pub mod Gates
 pub mod Each
 pub mod Region
 pub mod Accepted
+pub mod Totals
+pub mod Filled
