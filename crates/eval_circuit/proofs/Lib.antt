@@ -5,3 +5,4 @@ pub mod Region
 pub mod Accepted
 pub mod Totals
 pub mod Filled
+pub mod Wires

@@ -1,8 +1,8 @@
 -- How often all wires of a circuit are named: each gate names two.
 -- Assumes nothing.
-use mathlib.Core.Path.{_≡_, refl, ap₂, _∙_}
+use mathlib.Core.Path.{_≡_, refl, ap, ap₂, _∙_}
 use mathlib.Core.Logic.{⊎-elim}
-use Prim.Native.Nat.{ℕ, zero, suc, _+_, _*_, _≤_, _<_}
+use Prim.Native.Nat.{ℕ, zero, suc, _+_, _-_, _*_, _≤_, _<_}
 use native.Mathlib.Omega.{arith}
 use borrow.Author.Tests.{eq-eqb, ne-eqb}
 use Rattle.field.proofs.Cases.{below?}
@@ -16,10 +16,26 @@ unfoldable pub total : (ℕ → ℕ) → ℕ → ℕ
 total f zero = 0
 total f (suc n) = total f n + f n
 
-total-same : (f g : ℕ → ℕ) (n : ℕ) → ((k : ℕ) → f k ≡ g k) → total f n ≡ total g n
+pub total-same : (f g : ℕ → ℕ) (n : ℕ) → ((k : ℕ) → k < n → f k ≡ g k) → total f n ≡ total g n
 unfolding total
 total-same f g zero h = refl
-total-same f g (suc n) h = ap₂ (λ (x y : ℕ). x + y) (total-same f g n h) (h n)
+total-same f g (suc n) h = ap₂ (λ (x y : ℕ). x + y) (total-same f g n (λ k l. h k (omega arith))) (h n (omega arith))
+
+-- the first may be added last
+total-first : (f : ℕ → ℕ) (n : ℕ) → total f (suc n) ≡ total (λ k. f (suc k)) n + f 0
+unfolding total
+total-first f zero = refl
+total-first f (suc n) = let e = total-first f n in omega arith
+
+-- from the last to the first
+pub total-back : (f : ℕ → ℕ) (n : ℕ) → total (λ k. f (n - 1 - k)) n ≡ total f n
+unfolding total
+total-back f zero = refl
+total-back f (suc n) =
+    total-first (λ k. f (suc n - 1 - k)) n
+    ∙ ap₂ (λ (x y : ℕ). x + y)
+    (total-same _ _ n (λ k h. ap f (omega arith)) ∙ total-back f n)
+    (ap f (omega arith))
 
 total-sum : (f g : ℕ → ℕ) (n : ℕ) → total (λ k. f k + g k) n ≡ total f n + total g n
 unfolding total
@@ -62,13 +78,13 @@ module _ (c : Circuit) where
   named-more n id = refl
 
   named-total : (n : ℕ) → ((k : ℕ) → k < n → Early c k) → total (namedBy n c) (numWires c) ≡ 2 * n
-  named-total zero h = total-same _ _ (numWires c) named-none ∙ total-none (numWires c)
+  named-total zero h = total-same _ _ (numWires c) (λ id l. named-none id) ∙ total-none (numWires c)
   named-total (suc n) h =
       let e = h n (omega arith) in
       let left : total (names (leftId (word c n))) (numWires c) ≡ 1 = total-named _ _ (e .left-wire) in
       let right : total (names (rightId (word c n))) (numWires c) ≡ 1 = total-named _ _ (e .right-wire) in
       let two : 2 * n + (1 + 1) ≡ 2 * suc n = omega arith in
-      total-same _ _ (numWires c) (named-more n)
+      total-same _ _ (numWires c) (λ id l. named-more n id)
       ∙ total-sum (namedBy n c) (λ id. names (leftId (word c n)) id + names (rightId (word c n)) id) (numWires c)
       ∙ ap₂ (λ (i j : ℕ). i + j)
       (named-total n (λ k l. h k (omega arith)))
