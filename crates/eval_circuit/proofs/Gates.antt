@@ -70,7 +70,7 @@ clash : {A : Type 0} {n k : ℕ} {vs : List ℕ} → refused n k ≡ accepted vs
 clash q = let z : _≡_ {A = ℕ} 0 1 = cc in absurd (omega arith)
 
 module _ (c : Circuit) (k : ℕ) where
-  gate-over : p ≤ word c k → gateAnswer c k ≡ refused 7 k
+  pub gate-over : p ≤ word c k → gateAnswer c k ≡ refused 7 k
   unfolding gateAnswer
   gate-over h = rw (not-element (word c k) h)
 

@@ -6,3 +6,6 @@ pub mod Accepted
 pub mod Totals
 pub mod Filled
 pub mod Wires
+pub mod Shape
+pub mod Stages
+pub mod Secrets

@@ -99,14 +99,14 @@ module _ (ctx clk ptr num-vars num-eval : ℕ) (memory : List ℕ) (b : Lent) wh
     node-eval k j h l = ap (λ (x : Lent). getD (x .nodes) (7 * (num-vars / 2) + 11 * k + j) 0) accepted-filled ∙ filled-eval circuit ptr b k j h l
 
     -- "cells past those used never change"
-    pub past-values : (i : ℕ) → 2 * num-wires ≤ i → getD (after .values) i 0 ≡ getD (b .values) i 0
-    past-values i h = ap (λ (x : Lent). getD (x .values) i 0) accepted-filled ∙ values-kept circuit ptr b i h
+    pub kept-values : (i : ℕ) → 2 * num-wires ≤ i → getD (after .values) i 0 ≡ getD (b .values) i 0
+    kept-values i h = ap (λ (x : Lent). getD (x .values) i 0) accepted-filled ∙ values-kept circuit ptr b i h
 
-    pub past-counts : (i : ℕ) → num-wires ≤ i → getD (after .counts) i 0 ≡ getD (b .counts) i 0
-    past-counts i h = ap (λ (x : Lent). getD (x .counts) i 0) accepted-filled ∙ counts-kept circuit ptr b i h
+    pub kept-counts : (i : ℕ) → num-wires ≤ i → getD (after .counts) i 0 ≡ getD (b .counts) i 0
+    kept-counts i h = ap (λ (x : Lent). getD (x .counts) i 0) accepted-filled ∙ counts-kept circuit ptr b i h
 
-    pub past-nodes : (i : ℕ) → nodeCells (num-vars / 2) num-eval ≤ i → getD (after .nodes) i 0 ≡ getD (b .nodes) i 0
-    past-nodes i h = ap (λ (x : Lent). getD (x .nodes) i 0) accepted-filled ∙ nodes-kept circuit ptr b i h
+    pub kept-nodes : (i : ℕ) → nodeCells (num-vars / 2) num-eval ≤ i → getD (after .nodes) i 0 ≡ getD (b .nodes) i 0
+    kept-nodes i h = ap (λ (x : Lent). getD (x .nodes) i 0) accepted-filled ∙ nodes-kept circuit ptr b i h
 
     -- nor do the lengths
     pub length-values : length (after .values) ≡ length (b .values)
