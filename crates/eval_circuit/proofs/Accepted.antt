@@ -1,7 +1,7 @@
 -- Acceptance: an evaluation is accepted exactly where a list of plain facts holds.
 -- Assumes nothing.
-use mathlib.Core.Path.{_≡_, refl, sym, ap, ap₂, _∙_}
-use mathlib.Core.Bool.{Bool, true, false, cond, _||_}
+use mathlib.Core.Path.{_≡_, sym, ap, ap₂, _∙_}
+use mathlib.Core.Bool.{true, cond, _||_}
 use mathlib.Core.List.{List, [], _∷_}
 use Prim.Native.Nat.{ℕ, _+_, _-_, _*_, _/_, _%_, _^_, _≤_, _<_}
 use native.Mathlib.Omega.{arith}
@@ -19,6 +19,7 @@ use Rattle.trace.proofs.Choices.{both, passes, not-stopped}
 use Rattle.trace.proofs.Tests.{room-of, room-by-nodes}
 use Rattle.eval_circuit.specs.Circuit.{Circuit, word, value}
 use Rattle.eval_circuit.specs.Evaluated.{memoryCells, regionCells, circuitAt, circuitAnswer, evalAnswer}
+use Rattle.eval_circuit.proofs.Cases.{neither, neither-holds, same-values}
 use Rattle.eval_circuit.proofs.Values.{Early}
 use Rattle.eval_circuit.proofs.Gates.{early-gate, gate-early, gates-pass, gates-accepted}
 use Rattle.eval_circuit.proofs.Region.{memory-most, memory-least, region-by-address, region-by-cell, region-word-below, cells-pass, cells-passed}
@@ -50,14 +51,6 @@ pub record Valid (ptr num-vars num-eval : ℕ) (memory : List ℕ) (b : Lent) : 
   pub early : (k : ℕ) → k < num-eval → Early (circuitAt memory ptr num-vars num-eval) k
   -- the last wire made has id 0
   pub zero-output : value (circuitAt memory ptr num-vars num-eval) 0 ≡ pair 0 0
-
-neither : (a b : Bool) → (a || b) ≡ false → (a ≡ false) × (b ≡ false)
-neither true b e = let z : _≡_ {A = ℕ} 0 1 = cc in absurd (omega arith)
-neither false b e = (refl, e)
-
-neither-holds : (a b : Bool) → a ≡ false → b ≡ false → (a || b) ≡ false
-neither-holds true b e f = e
-neither-holds false b e f = f
 
 zero-of : (v : Pair) → isZero v ≡ true → v ≡ pair 0 0
 zero-of v e = let z = both _ _ e in ap₂ pair (eqb-true _ _ (z .0)) (eqb-true _ _ (z .1))
@@ -148,7 +141,4 @@ module _ (ctx clk ptr num-vars num-eval : ℕ) (memory : List ℕ) (b : Lent) wh
 
   -- and no other header is answered
   pub accepted-header : (vs : List ℕ) → evalAnswer ctx clk ptr num-vars num-eval memory b ≡ accepted vs → vs ≡ header ctx clk num-vars num-eval
-  accepted-header vs e = same (sym e ∙ valid-accepted (accepted-valid vs e))
-    where
-      same : {xs ys : List ℕ} → accepted xs ≡ accepted ys → xs ≡ ys
-      same q = cc
+  accepted-header vs e = same-values (sym e ∙ valid-accepted (accepted-valid vs e))

@@ -1,3 +1,4 @@
+pub mod Cases
 pub mod Values
 pub mod Gates
 pub mod Each
@@ -9,3 +10,4 @@ pub mod Wires
 pub mod Shape
 pub mod Stages
 pub mod Secrets
+pub mod Twins

@@ -1,7 +1,7 @@
 -- What an evaluation shows does not depend on the READ cells: two memories of one shape are refused alike, and accepted with the same record but for values.
 -- Assumes nothing.
-use mathlib.Core.Path.{_≡_, refl, sym, ap, ap₂, _∙_, subst}
-use mathlib.Core.Bool.{Bool, true, false, cond}
+use mathlib.Core.Path.{_≡_, sym, ap, ap₂, _∙_, subst}
+use mathlib.Core.Bool.{cond}
 use mathlib.Core.List.{List, [], _∷_, _++_}
 use mathlib.Core.Logic.{_⊎_, ⊎-elim, inl, inr}
 use Prim.Native.Nat.{ℕ, _+_, _*_, _/_, _≤_, _<_}
@@ -16,6 +16,7 @@ use Rattle.trace.specs.Eval.{evalOp}
 use Rattle.trace.specs.Output.{isZero}
 use Rattle.eval_circuit.specs.Circuit.{Circuit, value, gatesAnswer}
 use Rattle.eval_circuit.specs.Evaluated.{memoryCells, circuitAt, ofCells, evalAnswer, idAt, countCell, cleared, evalBuffers}
+use Rattle.eval_circuit.proofs.Cases.{true-or-false, clash, same-refusal}
 use Rattle.eval_circuit.proofs.Each.{each-equal}
 use Rattle.eval_circuit.proofs.Accepted.{header, accepted-header}
 use Rattle.eval_circuit.proofs.Wires.{accepted-filled, node-read, node-eval, kept-values, kept-nodes, length-values, length-nodes}
@@ -34,6 +35,10 @@ pub record SameRefusal (first second : Told) : Type 0 where
 -- none of these: accepted with the header, or 12
 abbrev pub Through : List ℕ → Told → Type 0
 Through h t = (t ≡ accepted h) ⊎ (t ≡ refused 12 0)
+
+-- the same refusal from 1 to 10 at the same place, or neither has one and then each is accepted or refused 12
+abbrev pub Answered : List ℕ → Told → Told → Type 0
+Answered h first second = SameRefusal first second ⊎ (Through h first × Through h second)
 
 -- the headers of two accepted evaluations and what they leave are equal, but for the used value cells and the values in the node cells
 pub record SameRecord (num-vars num-eval : ℕ) (first-header second-header : List ℕ) (first second : Lent) : Type 0 where
@@ -55,18 +60,31 @@ pub record SameRecord (num-vars num-eval : ℕ) (first-header second-header : Li
   pub node-lengths : length (first .nodes) ≡ length (second .nodes)
   pub value-lengths : length (first .values) ≡ length (second .values)
 
+-- what two memories of one shape come to, all else being equal
+pub record Unseen (ctx clk ptr num-vars num-eval : ℕ) (first second : List ℕ) (b : Lent) : Type 0 where
+  pub answers : Answered (header ctx clk num-vars num-eval) (evalAnswer ctx clk ptr num-vars num-eval first b) (evalAnswer ctx clk ptr num-vars num-eval second b)
+  -- where both are refused, all lent buffers end equal
+  pub refused-alike : (n k m l : ℕ) → evalAnswer ctx clk ptr num-vars num-eval first b ≡ refused n k → evalAnswer ctx clk ptr num-vars num-eval second b ≡ refused m l
+      → evalBuffers ctx clk ptr num-vars num-eval first b ≡ evalBuffers ctx clk ptr num-vars num-eval second b
+  -- where both are accepted, headers, counts and all node cells but the values are equal
+  pub accepted-alike : (vs ws : List ℕ) → evalAnswer ctx clk ptr num-vars num-eval first b ≡ accepted vs → evalAnswer ctx clk ptr num-vars num-eval second b ≡ accepted ws
+      → SameRecord num-vars num-eval vs ws (evalBuffers ctx clk ptr num-vars num-eval first b) (evalBuffers ctx clk ptr num-vars num-eval second b)
+
 -- "1 to 7 change nothing. 8, 9, 10 and 12 leave the used value cells, counts and node cells zero"
 refused-buffers : (ctx clk ptr num-vars num-eval : ℕ) (memory : List ℕ) (b : Lent) (n k : ℕ) → evalAnswer ctx clk ptr num-vars num-eval memory b ≡ refused n k
     → evalBuffers ctx clk ptr num-vars num-eval memory b ≡ cond (leb n 7) b (cleared (circuitAt memory ptr num-vars num-eval) b)
 unfolding evalBuffers
 refused-buffers ctx clk ptr num-vars num-eval memory b n k e = rw e
 
-clash : {A : Type 0} {n k : ℕ} {vs : List ℕ} → accepted vs ≡ refused n k → A
-clash q = let z : _≡_ {A = ℕ} 0 1 = cc in absurd (omega arith)
+twelve : (h : List ℕ) (t : Told) (n k : ℕ) → Through h t → t ≡ refused n k → n ≡ 12
+twelve h t n k th e = ⊎-elim (λ q. clash (sym e ∙ q)) (λ q. same-refusal (sym e ∙ q) .0) th
 
-true-or-false : (b : Bool) → (b ≡ true) ⊎ (b ≡ false)
-true-or-false true = inl refl
-true-or-false false = inr refl
+same-number : (h : List ℕ) (s t : Told) (n k m l : ℕ) → Answered h s t → s ≡ refused n k → t ≡ refused m l → n ≡ m
+same-number h s t n k m l a e f =
+    ⊎-elim
+    (λ r. same-refusal (sym e ∙ r .first-refused) .0 ∙ same-refusal (sym (r .second-refused) ∙ f) .0)
+    (λ r. twelve h s n k (r .0) e ∙ sym (twelve h t m l (r .1) f))
+    a
 
 module _ (ctx clk ptr num-vars num-eval : ℕ) (first second : List ℕ) (b : Lent) (alike : Alike ptr num-vars num-eval first second) where
   abbrev one : Circuit
@@ -96,14 +114,7 @@ module _ (ctx clk ptr num-vars num-eval : ℕ) (first second : List ℕ) (b : Le
       (λ z. inr (rw z))
       (true-or-false (isZero (value c 0)))
 
-  abbrev first-answer : Told
-  first-answer = evalAnswer ctx clk ptr num-vars num-eval first b
-
-  abbrev second-answer : Told
-  second-answer = evalAnswer ctx clk ptr num-vars num-eval second b
-
-  -- the same refusal from 1 to 10 at the same place, or neither has one and then each is accepted or refused 12
-  pub same-answers : SameRefusal first-answer second-answer ⊎ (Through (header ctx clk num-vars num-eval) first-answer × Through (header ctx clk num-vars num-eval) second-answer)
+  same-answers : Answered (header ctx clk num-vars num-eval) (evalAnswer ctx clk ptr num-vars num-eval first b) (evalAnswer ctx clk ptr num-vars num-eval second b)
   same-answers =
       ⊎-elim
       (λ h. inr (
@@ -120,31 +131,9 @@ module _ (ctx clk ptr num-vars num-eval : ℕ) (first second : List ℕ) (b : Le
       }))
       (stage-all ptr num-vars num-eval b (memoryCells first) one)
 
-  -- where both are refused, all lent buffers end equal
-  pub same-refused : (n k m l : ℕ) → first-answer ≡ refused n k → second-answer ≡ refused m l
-      → evalBuffers ctx clk ptr num-vars num-eval first b ≡ evalBuffers ctx clk ptr num-vars num-eval second b
-  same-refused n k m l e f =
-      refused-buffers ctx clk ptr num-vars num-eval first b n k e
-      ∙ ap (λ (i : ℕ). cond (leb i 7) b (cleared one b)) (numbers same-answers)
-      ∙ sym (refused-buffers ctx clk ptr num-vars num-eval second b m l f)
-    where
-      equal : {i j i′ j′ : ℕ} → refused i j ≡ refused i′ j′ → i ≡ i′
-      equal q = cc
-
-      late : (t : Told) (i j : ℕ) → Through (header ctx clk num-vars num-eval) t → t ≡ refused i j → i ≡ 12
-      late t i j h q = ⊎-elim (λ a. clash (sym a ∙ q)) (λ a. equal (sym q ∙ a)) h
-
-      numbers : SameRefusal first-answer second-answer ⊎ (Through (header ctx clk num-vars num-eval) first-answer × Through (header ctx clk num-vars num-eval) second-answer) → n ≡ m
-      numbers h =
-          ⊎-elim
-          (λ s. equal (sym e ∙ s .first-refused) ∙ equal (sym (s .second-refused) ∙ f))
-          (λ s. late first-answer n k (s .0) e ∙ sym (late second-answer m l (s .1) f))
-          h
-
-  -- where both are accepted, headers, counts and all node cells but the values are equal
-  pub same-accepted : (vs ws : List ℕ) → first-answer ≡ accepted vs → second-answer ≡ accepted ws
+  same-record : (vs ws : List ℕ) → evalAnswer ctx clk ptr num-vars num-eval first b ≡ accepted vs → evalAnswer ctx clk ptr num-vars num-eval second b ≡ accepted ws
       → SameRecord num-vars num-eval vs ws (evalBuffers ctx clk ptr num-vars num-eval first b) (evalBuffers ctx clk ptr num-vars num-eval second b)
-  same-accepted vs ws e f =
+  same-record vs ws e f =
       let words = same-word ptr num-vars num-eval first second alike in
       let of-read = node-read ctx clk ptr num-vars num-eval first b vs e in
       let to-read = node-read ctx clk ptr num-vars num-eval second b ws f in
@@ -170,3 +159,14 @@ module _ (ctx clk ptr num-vars num-eval : ℕ) (first second : List ℕ) (b : Le
         node-lengths = length-nodes ctx clk ptr num-vars num-eval first b vs e ∙ sym (length-nodes ctx clk ptr num-vars num-eval second b ws f);
         value-lengths = length-values ctx clk ptr num-vars num-eval first b vs e ∙ sym (length-values ctx clk ptr num-vars num-eval second b ws f);
       }
+
+  -- nothing but values tells the READ cells of one from those of the other, unless one is refused 12 and the other is not
+  pub unseen : Unseen ctx clk ptr num-vars num-eval first second b
+  unseen = record {
+    answers = same-answers;
+    refused-alike = (λ n k m l e f.
+        refused-buffers ctx clk ptr num-vars num-eval first b n k e
+        ∙ ap (λ (i : ℕ). cond (leb i 7) b (cleared one b)) (same-number _ _ _ n k m l same-answers e f)
+        ∙ sym (refused-buffers ctx clk ptr num-vars num-eval second b m l f));
+    accepted-alike = same-record;
+  }

@@ -16,6 +16,7 @@ use Rattle.trace.specs.Outcome.{Lent}
 use Rattle.trace.specs.Output.{isZero}
 use Rattle.eval_circuit.specs.Circuit.{Circuit, word, value, gateAnswer, gatesAnswer}
 use Rattle.eval_circuit.specs.Evaluated.{memoryCells, regionCells, circuitAt, ofCells, evalAnswer}
+use Rattle.eval_circuit.proofs.Cases.{same-refusal}
 use Rattle.eval_circuit.proofs.Gates.{gate-over, gate-refused, gates-cases, gates-pass, gates-stop}
 use Rattle.eval_circuit.proofs.Accepted.{header}
 
@@ -56,14 +57,11 @@ stage-gates c n k =
     }))
     (gates-cases c n k)
   where
-    seven : (number place gate : ℕ) → refused 7 gate ≡ refused number place → (1 ≤ number) × (number ≤ 10)
-    seven number place gate q = let e : 7 ≡ number = cc in (omega arith, omega arith)
-
     numbers : (gate number place : ℕ) → gateAnswer c gate ≡ refused number place → (1 ≤ number) × (number ≤ 10)
     numbers gate number place e =
         ⊎-elim
         (λ l. let r = gate-refused c gate number place l e in (omega arith, omega arith))
-        (λ l. seven number place gate (sym (gate-over c gate l) ∙ e))
+        (λ l. let r = same-refusal (sym (gate-over c gate l) ∙ e) in (omega arith, omega arith))
         (below? (word c gate) p)
 
 -- "then 12"
