@@ -1,13 +1,12 @@
 -- Acceptance: an evaluation is accepted exactly where a list of plain facts holds.
 -- Assumes nothing.
 use mathlib.Core.Path.{_≡_, sym, ap, ap₂, _∙_}
-use mathlib.Core.Bool.{true, cond, _||_}
+use mathlib.Core.Bool.{true, cond}
 use mathlib.Core.List.{List, [], _∷_}
 use Prim.Native.Nat.{ℕ, _+_, _-_, _*_, _/_, _%_, _^_, _≤_, _<_}
 use native.Mathlib.Omega.{arith}
-use lib.Dec.{ltb, eqb}
 use lib.ListN.{length, getD}
-use borrow.Author.Tests.{ltb-false, eqb-true, eqb-false, le-ltb, le-leb, ne-eqb}
+use borrow.Author.Tests.{eqb-true, le-leb}
 use Rattle.field.specs.Told.{accepted, refused}
 use Rattle.field.specs.Field.{p}
 use Rattle.field.specs.Pair.{Pair, pair}
@@ -15,14 +14,15 @@ use Rattle.instruction.specs.Decode.{opcode}
 use Rattle.trace.specs.Counts.{mostWires, room}
 use Rattle.trace.specs.Outcome.{Lent}
 use Rattle.trace.specs.Output.{isZero}
-use Rattle.trace.proofs.Choices.{both, passes, not-stopped}
+use Rattle.trace.proofs.Choices.{both, passes}
 use Rattle.trace.proofs.Tests.{room-of, room-by-nodes}
 use Rattle.eval_circuit.specs.Circuit.{Circuit, word, value}
 use Rattle.eval_circuit.specs.Evaluated.{memoryCells, regionCells, circuitAt, circuitAnswer, evalAnswer}
-use Rattle.eval_circuit.proofs.Cases.{neither, neither-holds, same-values}
+use Rattle.eval_circuit.proofs.Cases.{same-values}
 use Rattle.eval_circuit.proofs.Values.{Early}
 use Rattle.eval_circuit.proofs.Gates.{early-gate, gate-early, gates-pass, gates-accepted}
-use Rattle.eval_circuit.proofs.Region.{memory-most, memory-least, region-by-address, region-by-cell, region-word-below, cells-pass, cells-passed}
+use Rattle.eval_circuit.proofs.RegionTests.{region-of, region-pass}
+use Rattle.eval_circuit.proofs.RegionCells.{memory-most, memory-least, region-by-address, region-by-cell, region-word-below, cells-pass, cells-passed}
 
 -- the header that is answered: ctx, clk, num_read, num_eval, id_next
 abbrev pub header : ℕ → ℕ → ℕ → ℕ → List ℕ
@@ -70,41 +70,30 @@ module _ (ctx clk ptr num-vars num-eval : ℕ) (memory : List ℕ) (b : Lent) wh
   pub accepted-valid : (vs : List ℕ) → evalAnswer ctx clk ptr num-vars num-eval memory b ≡ accepted vs → Valid ptr num-vars num-eval memory b
   unfolding evalAnswer
   accepted-valid vs e =
-      let a₁ = not-stopped (ltb mostWires (num-vars + num-eval)) _ 1 0 vs e in
-      let a₂ = not-stopped (eqb num-vars 0 || eqb (num-vars % 2) 1) _ 2 0 vs (a₁ .1) in
-      let a₃ = not-stopped (eqb num-eval 0 || ltb 0 (num-eval % 4)) _ 3 0 vs (a₂ .1) in
-      let a₄ = not-stopped (ltb 0 (ptr % 4)) _ 4 0 vs (a₃ .1) in
-      let a₅ = not-stopped (ltb (memoryCells memory) (ptr + regionCells num-vars num-eval)) _ 5 0 vs (a₄ .1) in
+      let a₅ = region-of ptr num-vars num-eval (memoryCells memory) _ vs e in
       let a₆ = passes (room (num-vars / 2) num-eval (length (b .values)) (length (b .counts)) (length (b .nodes))) _ 6 0 vs (a₅ .1) in
       let a₇ = cells-passed ptr (circuit .cells) _ vs (a₆ .1) in
       let a₈ = gates-accepted circuit _ num-eval 0 vs (a₇ .1) in
-      let a₉ = passes (isZero (value circuit 0)) _ 12 0 vs (a₈ .1) in
-      let v = neither _ _ (a₂ .0) in
-      let no-vars : (num-vars ≡ 0 → ⊥) = eqb-false _ _ (v .0) in
-      let odd : (num-vars % 2 ≡ 1 → ⊥) = eqb-false _ _ (v .1) in
-      let g = neither _ _ (a₃ .0) in
-      let no-evals : (num-eval ≡ 0 → ⊥) = eqb-false _ _ (g .0) in
-      let over : num-eval % 4 ≤ 0 = ltb-false _ _ (g .1) in
-      let past : ptr % 4 ≤ 0 = ltb-false _ _ (a₄ .0) in
-      let m = memory-most memory (ptr + regionCells num-vars num-eval) (ltb-false _ _ (a₅ .0)) in
+      let a₁₂ = passes (isZero (value circuit 0)) _ 12 0 vs (a₈ .1) in
+      let g = a₅ .0 in
+      let m = memory-most memory (ptr + regionCells num-vars num-eval) (g .in-memory) in
       let r = room-of _ _ _ _ _ (a₆ .0) in
-      let even : num-vars % 2 ≡ 0 = omega arith in
       record {
-        few = ltb-false _ _ (a₁ .0);
-        some-vars = omega arith;
-        even-vars = even;
-        some-evals = omega arith;
-        four-evals = omega arith;
-        aligned = omega arith;
+        few = g .few;
+        some-vars = g .some-vars;
+        even-vars = g .even-vars;
+        some-evals = g .some-evals;
+        four-evals = g .whole-evals;
+        aligned = g .aligned;
         in-memory = m .0;
         addressed = m .1;
-        room-values = doubled num-vars _ _ even (r .for-values);
-        room-counts = halved num-vars _ _ even (r .for-counts);
+        room-values = doubled num-vars _ _ (g .even-vars) (r .for-values);
+        room-counts = halved num-vars _ _ (g .even-vars) (r .for-counts);
         room-nodes = r .for-nodes;
         elements = region-by-address memory ptr num-vars num-eval (m .0) (a₇ .0);
         decodes = (λ k h. gate-early circuit k [] (a₈ .0 k (omega arith) (omega arith)) .1);
         early = (λ k h. gate-early circuit k [] (a₈ .0 k (omega arith) (omega arith)) .0);
-        zero-output = zero-of (value circuit 0) (a₉ .0);
+        zero-output = zero-of (value circuit 0) (a₁₂ .0);
       }
 
   valid-room : Valid ptr num-vars num-eval memory b → room (num-vars / 2) num-eval (length (b .values)) (length (b .counts)) (length (b .nodes)) ≡ true
@@ -124,20 +113,16 @@ module _ (ctx clk ptr num-vars num-eval : ℕ) (memory : List ℕ) (b : Lent) wh
   pub valid-accepted : Valid ptr num-vars num-eval memory b → evalAnswer ctx clk ptr num-vars num-eval memory b ≡ accepted (header ctx clk num-vars num-eval)
   unfolding evalAnswer
   valid-accepted h =
-      let no-vars : (num-vars ≡ 0 → ⊥) = λ e. let l = h .some-vars in omega arith in
-      let odd : (num-vars % 2 ≡ 1 → ⊥) = λ e. let l = h .even-vars in omega arith in
-      let no-evals : (num-eval ≡ 0 → ⊥) = λ e. let l = h .some-evals in omega arith in
-      let over : num-eval % 4 ≤ 0 = (let l = h .four-evals in omega arith) in
-      let past : ptr % 4 ≤ 0 = (let l = h .aligned in omega arith) in
-      rw (
-        le-ltb mostWires (num-vars + num-eval) (h .few),
-        neither-holds (eqb num-vars 0) (eqb (num-vars % 2) 1) (ne-eqb num-vars 0 no-vars) (ne-eqb (num-vars % 2) 1 odd),
-        neither-holds (eqb num-eval 0) (ltb 0 (num-eval % 4)) (ne-eqb num-eval 0 no-evals) (le-ltb 0 (num-eval % 4) over),
-        le-ltb 0 (ptr % 4) past,
-        le-ltb (memoryCells memory) (ptr + regionCells num-vars num-eval) (memory-least memory _ (h .in-memory) (h .addressed)),
-        valid-room h,
-      )
-      (cells-pass ptr (circuit .cells) _ (region-by-cell memory ptr num-vars num-eval (h .elements) (h .in-memory)) ∙ valid-gates h)
+      sym (region-pass ptr num-vars num-eval (memoryCells memory) _ (record {
+        few = h .few;
+        some-vars = h .some-vars;
+        even-vars = h .even-vars;
+        some-evals = h .some-evals;
+        whole-evals = h .four-evals;
+        aligned = h .aligned;
+        in-memory = memory-least memory _ (h .in-memory) (h .addressed);
+      }))
+      ∙ rw (valid-room h) (cells-pass ptr (circuit .cells) _ (region-by-cell memory ptr num-vars num-eval (h .elements) (h .in-memory)) ∙ valid-gates h)
 
   -- and no other header is answered
   pub accepted-header : (vs : List ℕ) → evalAnswer ctx clk ptr num-vars num-eval memory b ≡ accepted vs → vs ≡ header ctx clk num-vars num-eval

@@ -1,7 +1,7 @@
 -- Cases of a test and of an answer.
 -- Assumes nothing.
 use mathlib.Core.Path.{_≡_, refl}
-use mathlib.Core.Bool.{Bool, true, false, _||_}
+use mathlib.Core.Bool.{Bool, true, false}
 use mathlib.Core.List.{List}
 use mathlib.Core.Logic.{_⊎_, inl, inr}
 use Prim.Native.Nat.{ℕ}
@@ -11,14 +11,6 @@ use Rattle.field.specs.Told.{accepted, refused}
 pub true-or-false : (b : Bool) → (b ≡ true) ⊎ (b ≡ false)
 true-or-false true = inl refl
 true-or-false false = inr refl
-
-pub neither : (a b : Bool) → (a || b) ≡ false → (a ≡ false) × (b ≡ false)
-neither true b e = let z : _≡_ {A = ℕ} 0 1 = cc in absurd (omega arith)
-neither false b e = (refl, e)
-
-pub neither-holds : (a b : Bool) → a ≡ false → b ≡ false → (a || b) ≡ false
-neither-holds true b e f = e
-neither-holds false b e f = f
 
 -- what is refused is not accepted
 pub clash : {A : Type 0} {n k : ℕ} {vs : List ℕ} → refused n k ≡ accepted vs → A

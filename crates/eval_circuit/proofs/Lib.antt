@@ -2,12 +2,13 @@ pub mod Cases
 pub mod Values
 pub mod Gates
 pub mod Each
-pub mod Region
+pub mod RegionCells
+pub mod RegionTests
 pub mod Accepted
 pub mod Totals
 pub mod Filled
 pub mod Wires
 pub mod Shape
-pub mod Stages
+pub mod Passage
 pub mod Secrets
 pub mod Twins

@@ -10,18 +10,18 @@ use lib.Dec.{leb}
 use lib.ListN.{length, getD, drop}
 use Rattle.field.specs.Told.{Told, accepted, refused}
 use Rattle.instruction.specs.Decode.{leftId, rightId, opcode}
-use Rattle.trace.specs.Counts.{nodeCells}
+use Rattle.trace.specs.Counts.{nodeCells, room, withRoom}
 use Rattle.trace.specs.Outcome.{Lent}
 use Rattle.trace.specs.Eval.{evalOp}
 use Rattle.trace.specs.Output.{isZero}
-use Rattle.eval_circuit.specs.Circuit.{Circuit, value, gatesAnswer}
-use Rattle.eval_circuit.specs.Evaluated.{memoryCells, circuitAt, ofCells, evalAnswer, idAt, countCell, cleared, evalBuffers}
+use Rattle.eval_circuit.specs.Circuit.{Circuit, value}
+use Rattle.eval_circuit.specs.Evaluated.{memoryCells, circuitAt, ofRegion, evalAnswer, idAt, countCell, cleared, evalBuffers}
 use Rattle.eval_circuit.proofs.Cases.{true-or-false, clash, same-refusal}
 use Rattle.eval_circuit.proofs.Each.{each-equal}
 use Rattle.eval_circuit.proofs.Accepted.{header, accepted-header}
 use Rattle.eval_circuit.proofs.Wires.{accepted-filled, node-read, node-eval, kept-values, kept-nodes, length-values, length-nodes}
 use Rattle.eval_circuit.proofs.Shape.{Alike, same-word, same-memory, same-cells-gates, same-multiplicity}
-use Rattle.eval_circuit.proofs.Stages.{output, tests, staged, stage-all}
+use Rattle.eval_circuit.proofs.Passage.{output, tests, tested, passage}
 
 -- the same refusal from 1 to 10 at the same place
 pub record SameRefusal (first second : Told) : Type 0 where
@@ -93,17 +93,14 @@ module _ (ctx clk ptr num-vars num-eval : ℕ) (first second : List ℕ) (b : Le
   abbrev two : Circuit
   two = circuitAt second ptr num-vars num-eval
 
-  -- all that comes before 12
-  abbrev front : Told → Told
-  front t = tests ptr num-vars num-eval b (memoryCells first) (ofCells ptr (one .cells) (gatesAnswer num-eval 0 one t))
+  -- both go through the tests of the first
+  first-tested : evalAnswer ctx clk ptr num-vars num-eval first b ≡ tests ptr b (memoryCells first) one (output ctx clk one)
+  first-tested = tested ptr b ctx clk num-vars num-eval first
 
-  first-staged : evalAnswer ctx clk ptr num-vars num-eval first b ≡ front (output ctx clk one)
-  first-staged = staged ptr num-vars num-eval b ctx clk first
-
-  second-staged : evalAnswer ctx clk ptr num-vars num-eval second b ≡ front (output ctx clk two)
-  second-staged =
-      staged ptr num-vars num-eval b ctx clk second
-      ∙ ap₂ (tests ptr num-vars num-eval b)
+  second-tested : evalAnswer ctx clk ptr num-vars num-eval second b ≡ tests ptr b (memoryCells first) one (output ctx clk two)
+  second-tested =
+      tested ptr b ctx clk num-vars num-eval second
+      ∙ ap₂ (λ (n : ℕ) (t : Told). ofRegion ptr num-vars num-eval n (withRoom (room (num-vars / 2) num-eval (length (b .values)) (length (b .counts)) (length (b .nodes))) t))
       (sym (same-memory ptr num-vars num-eval first second alike))
       (sym (same-cells-gates ptr num-vars num-eval first second alike (output ctx clk two)))
 
@@ -118,18 +115,18 @@ module _ (ctx clk ptr num-vars num-eval : ℕ) (first second : List ℕ) (b : Le
   same-answers =
       ⊎-elim
       (λ h. inr (
-        subst (Through (header ctx clk num-vars num-eval)) (sym (first-staged ∙ h (output ctx clk one))) (through one),
-        subst (Through (header ctx clk num-vars num-eval)) (sym (second-staged ∙ h (output ctx clk two))) (through two),
+        subst (Through (header ctx clk num-vars num-eval)) (sym (first-tested ∙ h (output ctx clk one))) (through one),
+        subst (Through (header ctx clk num-vars num-eval)) (sym (second-tested ∙ h (output ctx clk two))) (through two),
       ))
       (λ s. inl (record {
         number = s .number;
         place = s .place;
         least = s .least;
         most = s .most;
-        first-refused = first-staged ∙ s .stops (output ctx clk one);
-        second-refused = second-staged ∙ s .stops (output ctx clk two);
+        first-refused = first-tested ∙ s .always (output ctx clk one);
+        second-refused = second-tested ∙ s .always (output ctx clk two);
       }))
-      (stage-all ptr num-vars num-eval b (memoryCells first) one)
+      (passage ptr b (memoryCells first) one)
 
   same-record : (vs ws : List ℕ) → evalAnswer ctx clk ptr num-vars num-eval first b ≡ accepted vs → evalAnswer ctx clk ptr num-vars num-eval second b ≡ accepted ws
       → SameRecord num-vars num-eval vs ws (evalBuffers ctx clk ptr num-vars num-eval first b) (evalBuffers ctx clk ptr num-vars num-eval second b)

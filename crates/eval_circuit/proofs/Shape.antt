@@ -1,20 +1,18 @@
 -- Two memories of one shape: what does not depend on the READ cells.
 -- Assumes nothing.
 use mathlib.Core.Path.{_≡_, refl, sym, ap, ap₂, _∙_}
-use mathlib.Core.Bool.{cond}
 use mathlib.Core.List.{List, [], _∷_}
 use mathlib.Core.Logic.{_⊎_, ⊎-elim, inl, inr}
-use Prim.Native.Nat.{ℕ, zero, suc, _+_, _-_, _*_, _^_, _≤_, _<_, min}
+use Prim.Native.Nat.{ℕ, zero, suc, _+_, _-_, _*_, _≤_, _<_, min}
 use native.Mathlib.Omega.{arith}
-use lib.Dec.{ltb}
 use lib.ListN.{length, getD, drop, length-take, length-drop}
 use Rattle.field.specs.Told.{Told}
 use Rattle.field.specs.Field.{p, firstOver}
 use Rattle.field.proofs.Cases.{below?}
 use Rattle.field.proofs.Over.{over-here, over-later}
 use Rattle.eval_circuit.specs.Circuit.{Circuit, word, namedBy, multiplicity, orElse, gateAnswer, gatesAnswer}
-use Rattle.eval_circuit.specs.Evaluated.{memoryCells, regionCells, circuitAt, ofCells}
-use Rattle.eval_circuit.proofs.Region.{region-at, region-word}
+use Rattle.eval_circuit.specs.Evaluated.{cellsCounted, memoryCells, regionCells, circuitAt, ofCells}
+use Rattle.eval_circuit.proofs.RegionCells.{region-at, region-word}
 
 -- two numbers are equal, or both are elements
 abbrev Matched : ℕ → ℕ → Type 0
@@ -102,7 +100,7 @@ module _ (ptr num-vars num-eval : ℕ) (first second : List ℕ) (alike : Alike 
   same-first = matched-first (one .cells) (two .cells) same-cells (λ k h. matched k (omega (arith, length-take (regionCells num-vars num-eval) (drop ptr first))))
 
   pub same-memory : memoryCells first ≡ memoryCells second
-  same-memory = ap (λ (n : ℕ). cond (ltb (2 ^ 32) n) (2 ^ 32) n) (alike .same-length)
+  same-memory = ap cellsCounted (alike .same-length)
 
   same-over : (t : Told) → ofCells ptr (one .cells) t ≡ ofCells ptr (two .cells) t
   unfolding ofCells

@@ -4,10 +4,10 @@ use mathlib.Core.Path.{_≡_, refl, ap, ap₂, _∙_}
 use mathlib.Core.Logic.{⊎-elim}
 use Prim.Native.Nat.{ℕ, zero, suc, _+_, _-_, _*_, _≤_, _<_}
 use native.Mathlib.Omega.{arith}
-use borrow.Author.Tests.{eq-eqb, ne-eqb}
 use Rattle.field.proofs.Cases.{below?}
 use Rattle.instruction.specs.Decode.{leftId, rightId}
 use Rattle.trace.specs.Calls.{names}
+use Rattle.trace.proofs.Stores.{names-same, names-other}
 use Rattle.eval_circuit.specs.Circuit.{Circuit, numWires, word, namedBy, multiplicity}
 use Rattle.eval_circuit.proofs.Values.{Early}
 
@@ -48,12 +48,6 @@ total-none zero = refl
 total-none (suc n) = let e = total-none n in omega arith
 
 -- an id is named once among all ids below a number over it, and not at all among those below itself
-names-other : (x id : ℕ) → (x ≡ id → ⊥) → names x id ≡ 0
-names-other x id h = rw (ne-eqb x id h)
-
-names-same : (x id : ℕ) → x ≡ id → names x id ≡ 1
-names-same x id h = rw (eq-eqb x id h)
-
 total-past : (x n : ℕ) → n ≤ x → total (names x) n ≡ 0
 unfolding total
 total-past x zero h = refl

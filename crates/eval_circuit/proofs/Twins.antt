@@ -12,7 +12,7 @@ use Rattle.field.proofs.Over.{over-below}
 use Rattle.instruction.specs.Decode.{decodeAnswer}
 use Rattle.trace.specs.Counts.{room}
 use Rattle.eval_circuit.specs.Circuit.{valueBy, gateAnswer, gatesAnswer}
-use Rattle.eval_circuit.specs.Evaluated.{ofCells, evalAnswer, each, evalBuffers}
+use Rattle.eval_circuit.specs.Evaluated.{ofRegion, ofCells, evalAnswer, each, evalBuffers}
 use Rattle.eval_circuit.specs.Listing.{memory, before, answered}
 use Rattle.eval_circuit.proofs.Accepted.{header}
 use Rattle.eval_circuit.proofs.Shape.{Alike}
@@ -23,16 +23,16 @@ abbrev pub other : List ℕ
 other = 5 ∷ 1 ∷ 6 ∷ 2 ∷ 2305843013508661253 ∷ 1152921508901814277 ∷ 3221225475 ∷ 1152921506754330625 ∷ []
 
 pub other-answered : evalAnswer 0 7 0 2 4 other before ≡ accepted (0 ∷ 7 ∷ 1 ∷ 4 ∷ (p - 1) ∷ [])
-unfolding evalAnswer ofCells room firstOver gatesAnswer gateAnswer decodeAnswer ofElements valueBy
+unfolding evalAnswer ofRegion ofCells room firstOver gatesAnswer gateAnswer decodeAnswer ofElements valueBy
 other-answered = refl
 
 -- the values do tell them apart
 pub memory-values : evalBuffers 0 7 0 2 4 memory before .values ≡ 3 ∷ 0 ∷ 4 ∷ 0 ∷ 7 ∷ 0 ∷ 12 ∷ 0 ∷ 0 ∷ 0 ∷ 0 ∷ 0 ∷ 9 ∷ []
-unfolding evalBuffers evalAnswer ofCells room firstOver gatesAnswer gateAnswer decodeAnswer ofElements valueBy each
+unfolding evalBuffers evalAnswer ofRegion ofCells room firstOver gatesAnswer gateAnswer decodeAnswer ofElements valueBy each
 memory-values = refl
 
 pub other-values : evalBuffers 0 7 0 2 4 other before .values ≡ 5 ∷ 1 ∷ 6 ∷ 2 ∷ 11 ∷ 3 ∷ 44 ∷ 16 ∷ 0 ∷ 0 ∷ 0 ∷ 0 ∷ 9 ∷ []
-unfolding evalBuffers evalAnswer ofCells room firstOver gatesAnswer gateAnswer decodeAnswer ofElements valueBy each
+unfolding evalBuffers evalAnswer ofRegion ofCells room firstOver gatesAnswer gateAnswer decodeAnswer ofElements valueBy each
 other-values = refl
 
 -- cells past the fourth are the same

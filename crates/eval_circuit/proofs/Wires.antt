@@ -15,7 +15,7 @@ use Rattle.trace.specs.Eval.{position, combine, evalOp, evalNode}
 use Rattle.eval_circuit.specs.Circuit.{Circuit, word, value, multiplicity}
 use Rattle.eval_circuit.specs.Evaluated.{circuitAt, evalAnswer, idAt, filled, evalBuffers}
 use Rattle.eval_circuit.proofs.Values.{value-read, value-gate}
-use Rattle.eval_circuit.proofs.Region.{region-at, region-word}
+use Rattle.eval_circuit.proofs.RegionCells.{region-at, region-word}
 use Rattle.eval_circuit.proofs.Accepted.{Valid, accepted-valid}
 use Rattle.eval_circuit.proofs.Totals.{total, total-same, total-back, multiplicity-total}
 use Rattle.eval_circuit.proofs.Filled.{filled-value, filled-count, filled-read, filled-eval, values-kept, counts-kept, nodes-kept, values-length, counts-length, nodes-length}
@@ -76,14 +76,14 @@ module _ (ctx clk ptr num-vars num-eval : ℕ) (memory : List ℕ) (b : Lent) wh
         ∙ ap (multiplicity circuit) i
 
     -- multiplicities, and so the counts, total 2 · num_eval
-    pub named-twice : total (multiplicity circuit) num-wires ≡ 2 * num-eval
-    named-twice = multiplicity-total circuit (valid .early)
+    pub multiplicities-total : total (multiplicity circuit) num-wires ≡ 2 * num-eval
+    multiplicities-total = multiplicity-total circuit (valid .early)
 
     pub counts-total : total (λ k. getD (after .counts) k 0) num-wires ≡ 2 * num-eval
     counts-total =
         total-same _ _ num-wires (λ k h. ap (λ (x : Lent). getD (x .counts) k 0) accepted-filled ∙ filled-count circuit ptr b k h)
         ∙ total-back (multiplicity circuit) num-wires
-        ∙ named-twice
+        ∙ multiplicities-total
 
     -- READ node i, seven cells: the wires of variables 2i and 2i + 1
     pub node-read : (i j : ℕ) → i < num-vars / 2 → j < 7

@@ -17,8 +17,11 @@ use Rattle.trace.specs.Output.{isZero}
 use Rattle.eval_circuit.specs.Circuit.{Circuit, numWires, word, value, multiplicity, gatesAnswer}
 
 -- "a slice longer than 2^32 counts as 2^32 cells"
+abbrev pub cellsCounted : ℕ → ℕ
+cellsCounted len = cond (ltb (2 ^ 32) len) (2 ^ 32) len
+
 abbrev pub memoryCells : List ℕ → ℕ
-memoryCells memory = cond (ltb (2 ^ 32) (length memory)) (2 ^ 32) (length memory)
+memoryCells memory = cellsCounted (length memory)
 
 -- the region's length, and the circuit in it
 abbrev pub regionCells : ℕ → ℕ → ℕ
@@ -43,17 +46,23 @@ circuitAnswer ctx clk c =
     (accepted (ctx ∷ clk ∷ c .vars / 2 ∷ c .gates ∷ (p - 1) ∷ []))
     (refused 12 0))
 
--- "order 1 to 7, then gate by gate 8, 9, 10, then 12"
-unfoldable pub evalAnswer : ℕ → ℕ → ℕ → ℕ → ℕ → List ℕ → Lent → Told
-evalAnswer ctx clk ptr num-vars num-eval memory b =
+-- 1 to 5, of a memory of so many cells; t where none of them is given
+unfoldable pub ofRegion : ℕ → ℕ → ℕ → ℕ → Told → Told
+ofRegion ptr num-vars num-eval memory-cells t =
     cond (ltb mostWires (num-vars + num-eval)) (refused 1 0)
     (cond (eqb num-vars 0 || eqb (num-vars % 2) 1) (refused 2 0)
     (cond (eqb num-eval 0 || ltb 0 (num-eval % 4)) (refused 3 0)
     (cond (ltb 0 (ptr % 4)) (refused 4 0)
-    (cond (ltb (memoryCells memory) (ptr + regionCells num-vars num-eval)) (refused 5 0)
+    (cond (ltb memory-cells (ptr + regionCells num-vars num-eval)) (refused 5 0)
+    t))))
+
+-- "order 1 to 7, then gate by gate 8, 9, 10, then 12"
+unfoldable pub evalAnswer : ℕ → ℕ → ℕ → ℕ → ℕ → List ℕ → Lent → Told
+evalAnswer ctx clk ptr num-vars num-eval memory b =
+    ofRegion ptr num-vars num-eval (memoryCells memory)
     (withRoom (room (num-vars / 2) num-eval (length (b .values)) (length (b .counts)) (length (b .nodes)))
     (ofCells ptr (circuitAt memory ptr num-vars num-eval .cells)
-    (circuitAnswer ctx clk (circuitAt memory ptr num-vars num-eval))))))))
+    (circuitAnswer ctx clk (circuitAt memory ptr num-vars num-eval))))
 
 -- the lists f 0, f 1, .. f (n - 1), one after the other
 unfoldable pub each : (ℕ → List ℕ) → ℕ → List ℕ

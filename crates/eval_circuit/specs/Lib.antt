@@ -1,3 +1,4 @@
 pub mod Circuit
 pub mod Evaluated
 pub mod Listing
+pub mod Inside

@@ -11,7 +11,7 @@ use Rattle.field.specs.Answer.{ofElements}
 use Rattle.trace.specs.Counts.{room}
 use Rattle.trace.specs.Outcome.{Lent, lent}
 use Rattle.eval_circuit.specs.Circuit.{valueBy, namedBy, gateAnswer, gatesAnswer}
-use Rattle.eval_circuit.specs.Evaluated.{ofCells, evalAnswer, each, evalBuffers}
+use Rattle.eval_circuit.specs.Evaluated.{ofRegion, ofCells, evalAnswer, each, evalBuffers}
 
 abbrev pub memory : List ℕ
 memory = 3 ∷ 0 ∷ 4 ∷ 0 ∷ 2305843013508661253 ∷ 1152921508901814277 ∷ 3221225475 ∷ 1152921506754330625 ∷ []
@@ -20,11 +20,11 @@ abbrev pub before : Lent
 before = lent (replicate 13 9) (replicate 7 9) (replicate 52 9)
 
 pub answered : evalAnswer 0 7 0 2 4 memory before ≡ accepted (0 ∷ 7 ∷ 1 ∷ 4 ∷ (p - 1) ∷ [])
-unfolding evalAnswer ofCells room firstOver gatesAnswer gateAnswer decodeAnswer ofElements valueBy
+unfolding evalAnswer ofRegion ofCells room firstOver gatesAnswer gateAnswer decodeAnswer ofElements valueBy
 answered = refl
 
 pub counted : evalBuffers 0 7 0 2 4 memory before .counts ≡ 2 ∷ 2 ∷ 2 ∷ 1 ∷ 1 ∷ 0 ∷ 9 ∷ []
-unfolding evalBuffers evalAnswer ofCells room firstOver gatesAnswer gateAnswer decodeAnswer ofElements valueBy namedBy each
+unfolding evalBuffers evalAnswer ofRegion ofCells room firstOver gatesAnswer gateAnswer decodeAnswer ofElements valueBy namedBy each
 counted = refl
 
 pub node : evalBuffers 0 7 0 2 4 memory before .nodes
@@ -33,5 +33,5 @@ pub node : evalBuffers 0 7 0 2 4 memory before .nodes
     ∷ 5 ∷ 0 ∷ 2 ∷ 12 ∷ 0 ∷ 5 ∷ 3 ∷ 0 ∷ 4 ∷ 4 ∷ 0
     ∷ 6 ∷ (p - 1) ∷ 1 ∷ 0 ∷ 0 ∷ 3 ∷ 7 ∷ 0 ∷ 3 ∷ 7 ∷ 0
     ∷ 7 ∷ 0 ∷ 0 ∷ 0 ∷ 0 ∷ 1 ∷ 0 ∷ 0 ∷ 2 ∷ 12 ∷ 0 ∷ 9 ∷ []
-unfolding evalBuffers evalAnswer ofCells room firstOver gatesAnswer gateAnswer decodeAnswer ofElements valueBy namedBy each
+unfolding evalBuffers evalAnswer ofRegion ofCells room firstOver gatesAnswer gateAnswer decodeAnswer ofElements valueBy namedBy each
 node = refl

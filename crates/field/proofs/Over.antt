@@ -80,3 +80,14 @@ pub accepted-of : (xs vs ws : List ℕ) (r : ℕ) → r ≡ firstOver xs → len
 accepted-of xs vs ws r e h q =
     let l : length xs ≤ firstOver xs = omega arith in
     ap accepted q ∙ sym (of-elements xs (accepted ws) l)
+
+-- numbers of which nothing is refused are elements
+pub elements-of : (xs vs : List ℕ) (t : Told) → ofElements xs t ≡ accepted vs → (k : ℕ) → k < length xs → getD xs k 0 < p
+elements-of xs vs t e k h =
+    ⊎-elim
+    (λ l. clash (refused-at xs t (firstOver xs) refl l ∙ e))
+    (λ l. over-below xs k (omega arith))
+    (below? (firstOver xs) (length xs))
+  where
+    clash : {n : ℕ} → refused 7 n ≡ accepted vs → getD xs k 0 < p
+    clash q = let z : _≡_ {A = ℕ} 0 1 = cc in absurd (omega arith)

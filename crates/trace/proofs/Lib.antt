@@ -3,3 +3,15 @@ pub mod Tests
 pub mod StepTests
 pub mod Writes
 pub mod Ways
+pub mod Answers
+pub mod Stores
+pub mod Accepted
+pub mod Runs
+pub mod NextId
+pub mod Reached
+pub mod Turns
+pub mod Multiplicities
+pub mod Past
+pub mod Ids
+pub mod Kept
+pub mod Values

@@ -37,7 +37,7 @@ counts-pass most r e t h =
     let n₃ : (e ≡ 0 → ⊥) = λ q. let i = h .evals in omega arith in
     rw (le-ltb most (wires r e) (h .few), ne-eqb r 0 n₂, ne-eqb e 0 n₃)
 
-told-accepted : (t : Told) → isAccepted t ≡ true → (vs : List ℕ) × (t ≡ accepted vs)
+pub told-accepted : (t : Told) → isAccepted t ≡ true → (vs : List ℕ) × (t ≡ accepted vs)
 told-accepted (accepted vs) e = (vs, refl)
 told-accepted (refused n k) e = let z : _≡_ {A = ℕ} 0 1 = cc in absurd (omega arith)
 

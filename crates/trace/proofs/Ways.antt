@@ -1,20 +1,20 @@
 -- Laws by which `do_read` and `do_eval` come to what their contracts say, way by way.
 -- Assumes nothing.
-use mathlib.Core.Path.{_≡_, refl, sym, ap, _∙_, subst}
+use mathlib.Core.Path.{_≡_, sym, ap, _∙_, subst}
 use mathlib.Core.Bool.{true}
 use mathlib.Core.List.{List, [], _∷_}
 use mathlib.Core.Logic.{⊎-elim}
-use Prim.Native.Nat.{ℕ, _+_, _-_, _*_, _^_, _≤_, _<_}
+use Prim.Native.Nat.{ℕ, _+_, _-_, _*_, _^_, _<_}
 use native.Mathlib.Omega.{arith}
 use lib.Dec.{ltb}
 use lib.ListN.{length, getD}
 use borrow.Author.Tests.{ltb-true}
-use Rattle.field.specs.Told.{Told, accepted, refused}
-use Rattle.field.specs.Field.{p, subF, firstOver}
+use Rattle.field.specs.Told.{accepted, refused}
+use Rattle.field.specs.Field.{p, subF}
 use Rattle.field.specs.Pair.{Pair, pair, Elements}
-use Rattle.field.specs.Answer.{ofElements, pairOf}
+use Rattle.field.specs.Answer.{pairOf}
 use Rattle.field.proofs.Cases.{below?}
-use Rattle.field.proofs.Over.{over-below, refused-at}
+use Rattle.field.proofs.Over.{elements-of}
 use Rattle.instruction.specs.Decode.{leftId, rightId, opcode, decodeAnswer}
 use Rattle.instruction.proofs.Laws.{not-instruction, instruction}
 use Rattle.trace.specs.declared.CircuitEvaluation.{CircuitEvaluation}
@@ -29,17 +29,6 @@ use Rattle.trace.specs.declared.wire_bus.Operand.the-variants as operand
 use Rattle.trace.specs.Inside.{operandTold, countsAfter, busOf, BusRoom, Room, ReadReady, EvalReady}
 use Rattle.trace.proofs.Choices.{both, passes}
 use Rattle.trace.proofs.Tests.{Counts, read-turn-of, eval-turn-of, room-of}
-
--- numbers that were looked at and found to be elements
-elements-of : (xs vs : List ℕ) (t : Told) → ofElements xs t ≡ accepted vs → length xs ≤ firstOver xs
-elements-of xs vs t e =
-    ⊎-elim
-    (λ l. clash (refused-at xs t (firstOver xs) refl l ∙ e))
-    (λ l. l)
-    (below? (firstOver xs) (length xs))
-  where
-    clash : {k : ℕ} → refused 7 k ≡ accepted vs → length xs ≤ firstOver xs
-    clash q = let z : _≡_ {A = ℕ} 0 1 = cc in absurd (omega arith)
 
 room-here : (s : CircuitEvaluation) (b : Lent) → Counts mostWires (s .«num_read») (s .«num_eval») → fits s b ≡ true → Room s (b .values) (b .counts) (b .nodes)
 room-here s b h f =
@@ -122,8 +111,7 @@ module _ (s : CircuitEvaluation) (ptr word : ℕ) (b : Lent) where
     word-element =
         let t = passes (evalTurn s) _ 13 0 [] (sym e) in
         let f = passes (fits s b) _ 6 0 [] (t .1) in
-        let h = elements-of (word ∷ ptr ∷ []) [] _ (f .1) in
-        over-below (word ∷ ptr ∷ []) 0 (omega arith)
+        elements-of (word ∷ ptr ∷ []) [] _ (f .1) 0 (omega arith)
 
     undecoded : (number place : ℕ) → refused number place ≡ decodeAnswer word → decodeAnswer word ≡ refused 8 0
     undecoded n k q =

@@ -25,11 +25,11 @@ unfoldable pub calls : List Call → Outcome → Outcome
 calls [] o = o
 calls (c ∷ cs) o = calls cs (called c o)
 
--- how many of a gate's two operands name the wire with an id
+-- 1 where an operand names the wire with an id
 abbrev pub names : ℕ → ℕ → ℕ
 names operand-id id = cond (eqb operand-id id) 1 0
 
--- the operands of accepted gates that name the wire with an id
+-- how many of the two operands of a gate that is accepted name it
 abbrev pub gateNames : Bool → ℕ → ℕ → ℕ
 gateNames true word id = names (leftId word) id + names (rightId word) id
 gateNames false word id = 0
@@ -38,6 +38,7 @@ abbrev pub callNames : Call → Outcome → ℕ → ℕ
 callNames (read ptr word) o id = 0
 callNames (eval ptr word) o id = gateNames (isAccepted (called (eval ptr word) o .told)) word id
 
+-- how many operands of accepted gates name it
 unfoldable pub accepteds : List Call → Outcome → ℕ → ℕ
 accepteds [] o id = 0
 accepteds (c ∷ cs) o id = callNames c o id + accepteds cs (called c o) id

@@ -83,7 +83,7 @@ pub enum OutputAnswer {
 }
 
 // What tests say: nothing, or the refusal's number and place.
-enum Tested {
+pub enum Tested {
     Passed,
     Refused(u32, u64),
 }
