@@ -1,13 +1,12 @@
 -- Stores into a list whose first cells are already made: the next ones, and a count that is raised.
 -- Assumes nothing.
 use mathlib.Core.Path.{_≡_, refl, sym, ap, ap₂, _∙_}
-use mathlib.Core.List.{List, [], _∷_, _++_, append-assoc}
-use mathlib.Core.Logic.{⊎-elim}
-use Prim.Native.Nat.{ℕ, zero, suc, _+_, _-_, _*_, _≤_, _<_}
-use native.Mathlib.Nat.{mul-suc, mul-zero}
+use mathlib.Core.List.{List, [], _∷_, _++_}
+use Prim.Native.Nat.{ℕ, suc, _+_, _*_, _≤_, _<_}
+use native.Mathlib.Nat.{mul-suc}
 use native.Mathlib.Omega.{arith}
-use lib.ListN.{length, getD, set, drop, length-append, length-drop, length-set, List·getD-append}
-use lib.Seq.{sets, sets-eq, take-at, drop-at, drop-append-add, drop-drop, ext-getD, set-append-left}
+use lib.ListN.{length, getD, set, drop, length-set, List·getD-append}
+use lib.Seq.{sets, sets-eq, take-at, drop-append-add, drop-drop, ext-getD, set-append-left}
 use Rattle.trace.specs.Eval.{raised}
 use Rattle.trace.specs.Calls.{names}
 use Rattle.trace.proofs.Stores.{raised-at}

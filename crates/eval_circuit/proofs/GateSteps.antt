@@ -7,26 +7,26 @@ use mathlib.Core.Logic.{_⊎_, ⊎-elim, inl, inr}
 use Prim.Native.Nat.{ℕ, zero, suc, _+_, _-_, _*_, _^_, _≤_, _<_}
 use native.Mathlib.Omega.{arith}
 use lib.ListN.{length, getD, set, drop}
-use lib.Seq.{sets, drop-at, drop-set-lt, drop-append-add, drop-drop}
-use borrow.Author.Tests.{ltb-true, ltb-false}
+use lib.Seq.{sets, drop-set-lt, drop-append-add, drop-drop}
+use borrow.Author.Tests.{ltb-true}
 use Rattle.field.specs.Told.{accepted, refused}
 use Rattle.field.specs.Field.{p, firstOver}
 use Rattle.field.specs.Pair.{Pair, cells}
-use Rattle.field.proofs.Over.{over-later, over-none, of-elements}
+use Rattle.field.proofs.Over.{over-later, of-elements}
 use Rattle.field.proofs.Cases.{below?}
 use Rattle.instruction.specs.Decode.{leftId, rightId, opcode, decodeAnswer}
 use Rattle.instruction.proofs.Laws.{instruction, not-instruction}
 use Rattle.trace.specs.declared.CircuitEvaluation.{CircuitEvaluation}
 use Rattle.trace.specs.declared.wire_bus.Operand.the-variants as operands
-use Rattle.trace.specs.Counts.{mostWires, wires, nodeCells}
+use Rattle.trace.specs.Counts.{wires, nodeCells}
 use Rattle.trace.specs.State.{wiresOf, nextId}
-use Rattle.trace.specs.Outcome.{Lent, lent, outcome, fits, valueAt}
-use Rattle.trace.specs.Eval.{evalTests, position, isMade, operandAnswer, operand, raised, counted, combine, evalOp, evalNode, evalMade, operandsStep, evalStep}
+use Rattle.trace.specs.Outcome.{Lent, lent, outcome, fits}
+use Rattle.trace.specs.Eval.{evalTests, position, isMade, operandAnswer, operand, raised, combine, evalOp, evalNode, evalMade, operandsStep, evalStep}
 use Rattle.trace.specs.Calls.{names}
 use Rattle.trace.proofs.Choices.{both}
 use Rattle.trace.proofs.Stores.{same?, names-same, names-other, raised-at}
 use Rattle.trace.proofs.NextId.{next-lacking, next-later}
-use Rattle.trace.proofs.StepTests.{eval-cells, no-wire, not-made, as-stored, stored-value}
+use Rattle.trace.proofs.StepTests.{eval-cells, as-stored, stored-value}
 use Rattle.trace.proofs.Ways.{eval-undecoded, eval-operands, left-refused, right-refused, both-taken}
 use Rattle.eval_circuit.specs.Circuit.{Circuit, numWires, word, value, namedBy, gateAnswer}
 use Rattle.eval_circuit.specs.Evaluated.{each, idAt, valueCells, readCells, evalCells}

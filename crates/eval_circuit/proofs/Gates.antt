@@ -15,6 +15,7 @@ use Rattle.instruction.proofs.Laws.{not-element, not-instruction, instruction}
 use Rattle.trace.specs.Eval.{isMade}
 use Rattle.trace.proofs.Choices.{both, both-hold, passes}
 use Rattle.eval_circuit.specs.Circuit.{Circuit, numWires, word, gateAnswer, gatesAnswer}
+use Rattle.eval_circuit.proofs.Cases.{true-or-false, clash, same-refusal}
 use Rattle.eval_circuit.proofs.Values.{Early}
 
 -- whether the operands of gate k are made before it
@@ -62,15 +63,8 @@ module _ (c : Circuit) (k : ℕ) (h : word c k < p) where
     pub early-gate : Early c k → gateAnswer c k ≡ accepted []
     early-gate e = gate-accepted (early-made c k e .0) (early-made c k e .1)
 
-true-or-false : (b : Bool) → (b ≡ true) ⊎ (b ≡ false)
-true-or-false true = inl refl
-true-or-false false = inr refl
-
-clash : {A : Type 0} {n k : ℕ} {vs : List ℕ} → refused n k ≡ accepted vs → A
-clash q = let z : _≡_ {A = ℕ} 0 1 = cc in absurd (omega arith)
-
 module _ (c : Circuit) (k : ℕ) where
-  gate-over : p ≤ word c k → gateAnswer c k ≡ refused 7 k
+  pub gate-over : p ≤ word c k → gateAnswer c k ≡ refused 7 k
   unfolding gateAnswer
   gate-over h = rw (not-element (word c k) h)
 
@@ -175,7 +169,7 @@ gates-refused c t n k number place e =
     (gates-cases c n k)
   where
     same : (m l : ℕ) → refused m l ≡ refused number place → First c k n m l → First c k n number place
-    same m l q f = let a : m ≡ number = cc in let b : l ≡ place = cc in rw (a, b) at f
+    same m l q f = rw (same-refusal q .0, same-refusal q .1) at f
 
 -- "8, 9, 10 .. gate": a gate whose word is an element is refused with one of these, and with its own number
 pub record Numbered (k number place : ℕ) : Type 0 where
@@ -197,7 +191,4 @@ gate-refused c k number place h e =
     (below? (opcode (word c k)) 3)
   where
     numbered : (n : ℕ) → 8 ≤ n → n ≤ 10 → refused n k ≡ refused number place → Numbered k number place
-    numbered n l m q =
-        let a : n ≡ number = cc in
-        let b : k ≡ place = cc in
-        record { least = omega arith; most = omega arith; place-is = sym b }
+    numbered n l m q = let s = same-refusal q in record { least = omega arith; most = omega arith; place-is = sym (s .1) }

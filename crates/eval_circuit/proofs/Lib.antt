@@ -1,3 +1,4 @@
+pub mod Cases
 pub mod Values
 pub mod Gates
 pub mod Each
@@ -9,3 +10,11 @@ pub mod GateSteps
 pub mod Turns
 pub mod Runs
 pub mod Whole
+pub mod Accepted
+pub mod Totals
+pub mod Filled
+pub mod Wires
+pub mod Shape
+pub mod Passage
+pub mod Secrets
+pub mod Twins

@@ -1,9 +1,9 @@
 -- Laws of a circuit's region: its cells by their addresses in memory, and when all of them are elements.
 -- Assumes nothing.
-use mathlib.Core.Path.{_≡_, _∙_}
+use mathlib.Core.Path.{_≡_, ap, _∙_}
 use mathlib.Core.List.{List}
 use mathlib.Core.Logic.{⊎-elim}
-use Prim.Native.Nat.{ℕ, _+_, _*_, _^_, _≤_, _<_}
+use Prim.Native.Nat.{ℕ, _+_, _-_, _*_, _^_, _≤_, _<_}
 use native.Mathlib.Omega.{arith}
 use lib.Dec.{ltb}
 use lib.ListN.{length, getD, drop, length-drop}
@@ -41,6 +41,26 @@ module _ (memory : List ℕ) (ptr num-vars num-eval : ℕ) where
 
   pub region-word : (k : ℕ) → k < num-eval → word (circuitAt memory ptr num-vars num-eval) k ≡ getD memory (ptr + (2 * num-vars + k)) 0
   region-word k h = region-at (2 * num-vars + k) (omega arith)
+
+module _ (memory : List ℕ) (ptr num-vars num-eval : ℕ) where
+  -- all cells of the region are elements: by their addresses, and by their places in it
+  pub region-by-address : ptr + regionCells num-vars num-eval ≤ length memory
+      → ((k : ℕ) → k < length (circuitAt memory ptr num-vars num-eval .cells) → getD (circuitAt memory ptr num-vars num-eval .cells) k 0 < p)
+      → (a : ℕ) → ptr ≤ a → a < ptr + regionCells num-vars num-eval → getD memory a 0 < p
+  region-by-address m h a l g =
+      let e : ptr + (a - ptr) ≡ a = omega arith in
+      rw (region-at memory ptr num-vars num-eval (a - ptr) (omega arith) ∙ ap (λ (j : ℕ). getD memory j 0) e)
+      at (h (a - ptr) (omega (arith, region-length memory ptr num-vars num-eval m)))
+
+  module _ (h : (a : ℕ) → ptr ≤ a → a < ptr + regionCells num-vars num-eval → getD memory a 0 < p) where
+    pub region-by-cell : ptr + regionCells num-vars num-eval ≤ length memory
+        → (k : ℕ) → k < length (circuitAt memory ptr num-vars num-eval .cells) → getD (circuitAt memory ptr num-vars num-eval .cells) k 0 < p
+    region-by-cell m k l =
+        let w : k < regionCells num-vars num-eval = omega (arith, region-length memory ptr num-vars num-eval m) in
+        rw (region-at memory ptr num-vars num-eval k w) (h (ptr + k) (omega arith) (omega arith))
+
+    pub region-word-below : (k : ℕ) → k < num-eval → word (circuitAt memory ptr num-vars num-eval) k < p
+    region-word-below k l = rw (region-word memory ptr num-vars num-eval k l) (h (ptr + (2 * num-vars + k)) (omega arith) (omega arith))
 
 module _ (ptr : ℕ) (xs : List ℕ) (t : Told) where
   pub cells-pass : ((k : ℕ) → k < length xs → getD xs k 0 < p) → ofCells ptr xs t ≡ t

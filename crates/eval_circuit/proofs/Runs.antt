@@ -6,9 +6,9 @@ use mathlib.Core.List.{List, [], _∷_, _++_}
 use mathlib.Core.Logic.{⊎-elim, inr}
 use Prim.Native.Nat.{ℕ, _+_, _-_, _*_, _/_, _≤_, _<_}
 use native.Mathlib.Omega.{arith}
-use lib.ListN.{length, getD, drop}
+use lib.ListN.{getD, drop}
 use borrow.Author.Tests.{eq-eqb}
-use Rattle.field.specs.Told.{Told, accepted, refused}
+use Rattle.field.specs.Told.{accepted, refused}
 use Rattle.field.specs.Field.{p}
 use Rattle.field.specs.Pair.{Pair, pair}
 use Rattle.trace.specs.declared.CircuitEvaluation.{CircuitEvaluation}
@@ -18,7 +18,7 @@ use Rattle.trace.specs.declared.OutputAnswer.{OutputAnswer}
 use Rattle.trace.specs.declared.OutputAnswer.the-variants as output
 use Rattle.trace.specs.Counts.{wires, nodeCells}
 use Rattle.trace.specs.State.{wiresOf, madeOf, nextId}
-use Rattle.trace.specs.Outcome.{Lent, lent, fits, valueAt}
+use Rattle.trace.specs.Outcome.{Lent, valueAt}
 use Rattle.trace.specs.Output.{headerNumbers, headerOf, isZero, outputTold, outputAnswer}
 use Rattle.trace.proofs.NextId.{next-none}
 use Rattle.eval_circuit.specs.Circuit.{Circuit, numWires, value, gatesAnswer}

@@ -2,25 +2,24 @@
 -- Assumes nothing.
 use mathlib.Core.Path.{_≡_, refl, sym, ap, ap₂, _∙_}
 use mathlib.Core.Bool.{true}
-use mathlib.Core.List.{List, [], _∷_, _++_, append-assoc, append-nil}
-use mathlib.Core.Logic.{_⊎_, ⊎-elim, inl, inr}
-use Prim.Native.Nat.{ℕ, zero, suc, _+_, _-_, _*_, _/_, _≤_, _<_}
+use mathlib.Core.List.{List, [], _++_, append-nil}
+use mathlib.Core.Logic.{_⊎_, inl}
+use Prim.Native.Nat.{ℕ, zero, suc, _+_, _-_, _*_, _≤_, _<_}
 use native.Mathlib.Omega.{arith}
-use lib.ListN.{length, getD, set, drop, length-append, length-drop}
+use lib.ListN.{length, getD, set, drop, length-append}
 use lib.Seq.{sets}
 use borrow.Author.Tests.{le-leb}
 use Rattle.field.specs.Told.{accepted}
-use Rattle.field.specs.Field.{p, subF, firstOver}
+use Rattle.field.specs.Field.{p, firstOver}
 use Rattle.field.specs.Pair.{Pair, pair, cells}
-use Rattle.field.specs.Answer.{pairOf}
 use Rattle.field.proofs.Over.{over-all, of-elements}
 use Rattle.trace.specs.declared.CircuitEvaluation.{CircuitEvaluation}
-use Rattle.trace.specs.Counts.{mostWires, wires, nodeCells, room}
-use Rattle.trace.specs.State.{wiresOf, madeOf, nextId, sound}
+use Rattle.trace.specs.Counts.{wires, nodeCells}
+use Rattle.trace.specs.State.{wiresOf, nextId, sound}
 use Rattle.trace.specs.Outcome.{Lent, lent, outcome, fits, valueAt}
 use Rattle.trace.specs.Read.{readNode, readHanded, readTests, readMade, readStep}
 use Rattle.trace.specs.Eval.{position}
-use Rattle.trace.proofs.Tests.{Sound, Counts, sound-is, room-by-nodes}
+use Rattle.trace.proofs.Tests.{sound-is, room-by-nodes}
 use Rattle.trace.proofs.StepTests.{read-cells}
 use Rattle.trace.proofs.Ways.{read-accepted}
 use Rattle.trace.proofs.NextId.{next-lacking, next-later}

@@ -2,13 +2,13 @@
 -- Assumes nothing.
 use mathlib.Core.Path.{_≡_, refl, sym, ap, ap₂, _∙_, subst}
 use mathlib.Core.Bool.{Bool, true, false, cond, _||_}
-use mathlib.Core.List.{List, [], _∷_, _++_}
+use mathlib.Core.List.{List, [], _++_}
 use mathlib.Core.Logic.{⊎-elim}
 use Prim.Native.Nat.{ℕ, _+_, _-_, _*_, _/_, _%_, _≤_, _<_}
 use native.Mathlib.Omega.{arith}
 use lib.Dec.{ltb, eqb}
 use lib.ListN.{length, getD, take, drop, replicate}
-use borrow.Author.Tests.{lt-ltb, le-ltb, le-leb, lt-leb}
+use borrow.Author.Tests.{lt-ltb, le-leb, lt-leb}
 use Rattle.field.specs.Told.{Told, accepted, refused}
 use Rattle.field.specs.Field.{p, firstOver}
 use Rattle.field.proofs.Over.{over-below}
@@ -17,18 +17,18 @@ use Rattle.trace.specs.declared.OpenAnswer.the-variants as opening
 use Rattle.trace.specs.declared.RecordHeader.{RecordHeader}
 use Rattle.trace.specs.declared.OutputAnswer.{OutputAnswer}
 use Rattle.trace.specs.declared.OutputAnswer.the-variants as output
-use Rattle.trace.specs.Counts.{mostWires, wires, nodeCells, room, ofCounts}
+use Rattle.trace.specs.Counts.{mostWires, nodeCells, room}
 use Rattle.trace.specs.State.{wiresOf}
-use Rattle.trace.specs.Outcome.{Lent, lent, fits}
+use Rattle.trace.specs.Outcome.{Lent, lent}
 use Rattle.trace.specs.Open.{opened, numbersOf, openAnswer}
 use Rattle.trace.specs.Output.{isZero, outputTold}
-use Rattle.trace.proofs.Tests.{Fits, room-of, counts-pass}
+use Rattle.trace.proofs.Tests.{room-of, counts-pass}
 use Rattle.trace.proofs.Answers.{open-determined}
-use Rattle.eval_circuit.specs.Circuit.{Circuit, numWires, value, gatesAnswer}
+use Rattle.eval_circuit.specs.Circuit.{Circuit, numWires, value}
 use Rattle.eval_circuit.specs.Evaluated.{memoryCells, regionCells, circuitAt, ofCells, circuitAnswer, ofRegion, evalAnswer, each, valueCells, countCell, readCells, evalCells, filled, zeroed, cleared, buffersAfter, evalBuffers}
 use Rattle.eval_circuit.specs.Inside.{circuitOf, after, stage, Past, Prepared, Used, Ran}
 use Rattle.eval_circuit.proofs.Gates.{First, Passed, gate-refused, gates-refused}
-use Rattle.eval_circuit.proofs.RegionCells.{memory-most, region-length, region-at, region-word, cells-pass}
+use Rattle.eval_circuit.proofs.RegionCells.{memory-most, region-length, region-at, cells-pass}
 use Rattle.eval_circuit.proofs.RegionTests.{Region, region-pass}
 use Rattle.eval_circuit.proofs.Stages.{lent-equal}
 

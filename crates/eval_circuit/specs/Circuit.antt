@@ -3,7 +3,7 @@
 use Prim.Native.Nat.{ℕ, zero, suc, _+_, _-_, _*_}
 use mathlib.Core.Bool.{cond}
 use mathlib.Core.List.{List, []}
-use lib.Dec.{ltb, eqb}
+use lib.Dec.{ltb}
 use lib.ListN.{getD}
 use Rattle.field.specs.Told.{Told, accepted, refused}
 use Rattle.field.specs.Pair.{Pair, pair}

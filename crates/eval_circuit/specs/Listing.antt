@@ -4,7 +4,7 @@ use Prim.Native.Nat.{ℕ, _-_}
 use mathlib.Core.Path.{_≡_, refl}
 use mathlib.Core.List.{List, [], _∷_}
 use lib.ListN.{replicate}
-use Rattle.field.specs.Told.{accepted, refused}
+use Rattle.field.specs.Told.{accepted}
 use Rattle.field.specs.Field.{p, firstOver}
 use Rattle.instruction.specs.Decode.{decodeAnswer}
 use Rattle.field.specs.Answer.{ofElements}

@@ -1,32 +1,27 @@
-use Rattle.eval_circuit.proofs.Whole.{stops-early, stops-short, stops-over, opened-is, prepared, used-by, over-is, ends-zero, ends-otherwise}
-use Rattle.eval_circuit.proofs.RegionCells.{memory-most}
-use Rattle.eval_circuit.proofs.RegionTests.{Region, region-of}
-use Rattle.eval_circuit.specs.Inside.{Prepared, after}
-use Rattle.eval_circuit.specs.Evaluated.{memoryCells, regionCells, circuitAt}
+-- `eval_circuit::eval_circuit` meets its contract.
+-- Assumes nothing.
+use mathlib.Core.List.{List, []}
+use mathlib.Core.Bool.{true}
+use mathlib.Core.Path.{_≡_, sym, ap, _∙_}
+use Prim.Native.Nat.{ℕ, _+_, _/_, _^_, _≤_}
+use native.Mathlib.Omega.{arith}
+use denote.Ref.{now}
+use lib.ListN.{length}
+use borrow.Author.Needs.{needs}
+use Rattle.field.specs.Field.{firstOver}
+use Rattle.field.specs.Told.{accepted}
 use Rattle.trace.specs.Inside.{testedTold}
 use Rattle.trace.specs.Open.{opened, openTold}
 use Rattle.trace.specs.Outcome.{Lent, lent}
 use Rattle.trace.specs.Counts.{room}
 use Rattle.trace.specs.declared.CircuitEvaluation.{CircuitEvaluation}
-use Rattle.field.specs.Field.{firstOver}
-use Rattle.field.specs.Told.{accepted}
-use lib.ListN.{length}
-use denote.Ref.{now}
-use native.Mathlib.Omega.{arith}
-use Prim.Native.Nat.{ℕ, _+_, _/_, _^_, _≤_}
-use mathlib.Core.List.{List, []}
-use mathlib.Core.Bool.{true}
-use mathlib.Core.Path.{_≡_, sym, ap, _∙_}
-use borrow.Author.Needs.{needs}
-use Rattle.eval_circuit.proofs.eval_circuit.Statement.{statement}
+use Rattle.eval_circuit.specs.Inside.{Prepared, after}
+use Rattle.eval_circuit.specs.Evaluated.{memoryCells, regionCells, circuitAt}
+use Rattle.eval_circuit.proofs.Whole.{stops-early, stops-short, stops-over, opened-is, prepared, used-by, over-is, ends-zero, ends-otherwise}
+use Rattle.eval_circuit.proofs.RegionCells.{memory-most}
+use Rattle.eval_circuit.proofs.RegionTests.{Region, region-of}
 use Rattle.eval_circuit.proofs.eval_circuit.Tie as tie
-use Rattle.eval_circuit.proofs.eval_circuit.Reads as reads
-use Rattle.eval_circuit.proofs.eval_circuit.Lts as lts
-use Rattle.eval_circuit.proofs.clear.clear.Reads as clear-reads
-use Rattle.eval_circuit.proofs.region.first_over.Reads as first-over-reads
-use Rattle.eval_circuit.proofs.region.test_region.Reads as test-region-reads
-use Rattle.eval_circuit.proofs.steps.run.Reads as run-reads
-use Rattle.trace.proofs.CircuitEvaluation.new.Reads as new-reads
+use Rattle.eval_circuit.proofs.eval_circuit.Statement.{statement}
 
 -- past 1 to 5
 abbrev start : tie.After-enum-told → tie.Start
@@ -75,118 +70,90 @@ ready c =
     let a = start (at-tests k) .args in
     prepared (a .ctx) (a .clk) (a .ptr) (a .num-vars) (a .num-eval) (memory (at-tests k)) (buffers (at-tests k)) (region (at-tests k)) (opened-here k .0) _ (over-here (c .before)) (none-over c) _ (opened-here k .1)
 
--- src/lib.rt:37:9
 test-region-requires : tie.Need-test-region-requires
 test-region-requires c κs = search needs
 
--- src/lib.rt:38:28
 enum-known-tested : tie.Need-enum-known-tested
 enum-known-tested c = search needs
 
--- src/lib.rt:39:9
 returns : tie.Need-returns
 returns c = stops-early _ _ _ _ _ _ _ _ _ (ap testedTold (sym (c .before .tested .given .1)) ∙ c .before .before .before .test-region .ensures)
 
 enum-told : tie.Need-enum-told
 enum-told c = search needs
 
--- src/lib.rt:41:20
 cast-num-read : tie.Need-cast-num-read
 cast-num-read c = let r = region c in omega arith
 
--- src/lib.rt:42:61
 cast-new : tie.Need-cast-new
 cast-new c = let r = region c in omega arith
 
--- src/lib.rt:42:9
 new-requires : tie.Need-new-requires
 new-requires c κs = search needs
 
--- src/lib.rt:44:28
 enum-known-opened : tie.Need-enum-known-opened
 enum-known-opened c = search needs
 
--- src/lib.rt:45:9
 enum-told-2 : tie.Need-enum-told-2
 enum-told-2 c = search needs
 
--- src/lib.rt:45:9
 same-length : tie.Need-same-length
 same-length c = search needs
 
--- src/lib.rt:45:9
 same-length-2 : tie.Need-same-length-2
 same-length-2 c = search needs
 
--- src/lib.rt:45:9
 same-length-3 : tie.Need-same-length-3
 same-length-3 c = search needs
 
--- src/lib.rt:45:9
 returns-2 : tie.Need-returns-2
 returns-2 c = stops-short (start (c .before .before .before .before .before .before) .args .ctx) (start (c .before .before .before .before .before .before) .args .clk) _ _ _ (memory (c .before .before .before .before .before .before)) (buffers (c .before .before .before .before .before .before)) (region (c .before .before .before .before .before .before)) _ _ (ap openTold (sym (c .enum-told2 .given .1)) ∙ c .before .before .new .ensures)
 
--- src/lib.rt:48:23
 mul-end : tie.Need-mul-end
 mul-end c = let r = region (at-tests c) in omega arith
 
--- src/lib.rt:48:15
 add-end : tie.Need-add-end
 add-end c = let r = region (at-tests c) in let m = within (at-tests c) in omega arith
 
--- src/lib.rt:48:15
 add-end-2 : tie.Need-add-end-2
 add-end-2 c = let r = region (at-tests c) in let m = within (at-tests c) in omega arith
 
--- src/lib.rt:49:9
 first-over-requires : tie.Need-first-over-requires
 first-over-requires c κs = let r = region (at-tests c) in let m = within (at-tests c) in (omega arith, omega arith)
 
--- src/lib.rt:51:9
 same-length-4 : tie.Need-same-length-4
 same-length-4 c = search needs
 
--- src/lib.rt:51:9
 same-length-5 : tie.Need-same-length-5
 same-length-5 c = search needs
 
--- src/lib.rt:51:9
 same-length-6 : tie.Need-same-length-6
 same-length-6 c = search needs
 
--- src/lib.rt:51:9
 returns-3 : tie.Need-returns-3
 returns-3 c = let a = start (at-tests (c .before .before)) .args in stops-over (a .ctx) (a .clk) (a .ptr) (a .num-vars) (a .num-eval) (now (a .memory)) (lent (now (a .values)) (now (a .counts)) (now (a .nodes))) (region (at-tests (c .before .before))) (opened-here (c .before .before) .0) _ (over-here (c .before)) (search needs)
 
--- src/lib.rt:53:9
 run-requires : tie.Need-run-requires
 run-requires c κs = ready (c .before .before .before)
 
--- src/lib.rt:54:28
 enum-known-answer : tie.Need-enum-known-answer
 enum-known-answer c = search needs
 
--- src/lib.rt:55:22
 enum-told-3 : tie.Need-enum-told-3
 enum-told-3 c = search needs
 
--- src/lib.rt:55:9
 clear-requires : tie.Need-clear-requires
 clear-requires c κs = used-by _ _ _ _ _ _ _ (ready (c .before .before .before .before .before .before .before .before .before .before .before .before .before .before .before) .0) (c .before .before .before .before .before .before .before .before .before .before .before .run .kept .1 .1 .1 .0) (c .before .before .before .before .before .before .before .before .before .before .before .run .kept .1 .1 .1 .1 .0) (c .before .before .before .before .before .before .before .before .before .before .before .run .kept .1 .1 .1 .1 .1 .0)
 
--- src/lib.rt:56:9
 same-length-7 : tie.Need-same-length-7
 same-length-7 c = search needs
 
--- src/lib.rt:56:9
 same-length-8 : tie.Need-same-length-8
 same-length-8 c = search needs
 
--- src/lib.rt:56:9
 same-length-9 : tie.Need-same-length-9
 same-length-9 c = search needs
 
--- src/lib.rt:56:9
 returns-4 : tie.Need-returns-4
 returns-4 c =
     let k = c .before .before .before .before .before .before .before .before .before .before .before .before .before .before .before .before .before .before .before .before .before .before .before .before in
@@ -194,19 +161,15 @@ returns-4 c =
     ends-otherwise (a .ctx) (a .clk) (a .ptr) (a .num-vars) (a .num-eval) (now (a .memory)) (lent (now (a .values)) (now (a .counts)) (now (a .nodes))) (region (at-tests k)) (opened-here k .0) _ (over-here (c .before .before .before .before .before .before .before .before .before .before .before .before .before .before .before .before .before .before .before .before .before .before .before)) (none-over (c .before .before .before .before .before .before .before .before .before .before .before .before .before .before .before .before .before .before .before .before .before .before)) _ (opened-here k .1)
     _ (lent (c .before .before .before .before .before .before .before .before .before .before .before .before .before .before .before .before .before .before .run .last .1 .1 .1 .0) (c .before .before .before .before .before .before .before .before .before .before .before .before .before .before .before .before .before .before .run .last .1 .1 .1 .1 .0) (c .before .before .before .before .before .before .before .before .before .before .before .before .before .before .before .before .before .before .run .last .1 .1 .1 .1 .1 .0)) (c .before .before .before .before .before .before .before .before .before .before .before .before .before .before .before .before .before .before .run .ensures .0) (c .before .before .before .before .before .before .before .before .before .before .before .before .before .before .before .before .before .before .run .ensures .1) _ _ (c .before .before .before .before .before .before .before .before .before .before .enum-told3 .given .1) (c .before .before .before .before .before .before .clear .ensures .0) (c .before .before .before .before .before .before .clear .ensures .1 .0) (c .before .before .before .before .before .before .clear .ensures .1 .1)
 
--- src/lib.rt:23:1
 same-length-10 : tie.Need-same-length-10
 same-length-10 c = search needs
 
--- src/lib.rt:23:1
 same-length-11 : tie.Need-same-length-11
 same-length-11 c = search needs
 
--- src/lib.rt:23:1
 same-length-12 : tie.Need-same-length-12
 same-length-12 c = search needs
 
--- src/lib.rt:23:1
 returns-5 : tie.Need-returns-5
 returns-5 c =
     let k = c .before .before .before .before .before .before .before .before .before .before .before .before .before .before .before in

@@ -1,64 +1,49 @@
-use Rattle.eval_circuit.proofs.RegionTests.{too-large, no-vars, odd-vars, no-evals, odd-evals, unaligned, outside, inside}
+-- `eval_circuit::region::test_region` meets its contract.
+-- Assumes nothing.
 use borrow.Author.Needs.{needs}
-use Rattle.eval_circuit.proofs.region.test_region.Statement.{statement}
+use Rattle.eval_circuit.proofs.RegionTests.{too-large, no-vars, odd-vars, no-evals, odd-evals, unaligned, outside, inside}
 use Rattle.eval_circuit.proofs.region.test_region.Tie as tie
-use Rattle.eval_circuit.proofs.region.test_region.Reads as reads
-use Rattle.eval_circuit.proofs.region.test_region.Lts as lts
-use Rattle.eval_circuit.proofs.region.cells_counted.Reads as cells-counted-reads
+use Rattle.eval_circuit.proofs.region.test_region.Statement.{statement}
 
--- src/region.rt:30:16
 cast-most : tie.Need-cast-most
 cast-most c = search needs
 
--- src/region.rt:32:9
 returns : tie.Need-returns
 returns c = too-large _ _ _ _ _ (search needs)
 
--- src/region.rt:35:9
 returns-2 : tie.Need-returns-2
 returns-2 c = too-large _ _ _ _ _ (search needs)
 
--- src/region.rt:38:9
 returns-3 : tie.Need-returns-3
 returns-3 c = no-vars _ _ _ _ _ (search needs) (search needs)
 
--- src/region.rt:41:9
 returns-4 : tie.Need-returns-4
 returns-4 c = odd-vars _ _ _ _ _ (search needs) (search needs)
 
--- src/region.rt:44:9
 returns-5 : tie.Need-returns-5
 returns-5 c = no-evals _ _ _ _ _ (search needs) (search needs) (search needs) (search needs)
 
--- src/region.rt:47:9
 returns-6 : tie.Need-returns-6
 returns-6 c = odd-evals _ _ _ _ _ (search needs) (search needs) (search needs) (search needs)
 
--- src/region.rt:50:9
 returns-7 : tie.Need-returns-7
 returns-7 c = unaligned _ _ _ _ _ (search needs) (search needs) (search needs) (search needs) (search needs) (search needs)
 
--- src/region.rt:52:17
 cells-counted-requires : tie.Need-cells-counted-requires
 cells-counted-requires c κs = search needs
 
--- src/region.rt:53:18
 mul-region : tie.Need-mul-region
 mul-region c = search needs
 
--- src/region.rt:53:18
 add-region : tie.Need-add-region
 add-region c = search needs
 
--- src/region.rt:55:9
 returns-8 : tie.Need-returns-8
 returns-8 c = outside _ _ _ _ _ (search needs) (search needs) (search needs) (search needs) (search needs) (search needs) (search needs)
 
--- src/region.rt:58:9
 returns-9 : tie.Need-returns-9
 returns-9 c = outside _ _ _ _ _ (search needs) (search needs) (search needs) (search needs) (search needs) (search needs) (search needs)
 
--- src/region.rt:27:1
 returns-10 : tie.Need-returns-10
 returns-10 c = inside _ _ _ _ _ (search needs) (search needs) (search needs) (search needs) (search needs) (search needs) (search needs)
 
