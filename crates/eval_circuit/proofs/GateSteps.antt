@@ -1,7 +1,7 @@
 -- The EVAL step of a gate: it leads to the next stage, or is refused as the definition by wire id says.
 -- Assumes nothing.
 use mathlib.Core.Path.{_≡_, refl, sym, ap, ap₂, _∙_, subst}
-use mathlib.Core.Bool.{Bool, true, false}
+use mathlib.Core.Bool.{true, false}
 use mathlib.Core.List.{List, [], _∷_, _++_, append-assoc}
 use mathlib.Core.Logic.{_⊎_, ⊎-elim, inl, inr}
 use Prim.Native.Nat.{ℕ, zero, suc, _+_, _-_, _*_, _^_, _≤_, _<_}
@@ -31,6 +31,7 @@ use Rattle.trace.proofs.Ways.{eval-undecoded, eval-operands, left-refused, righ
 use Rattle.eval_circuit.specs.Circuit.{Circuit, numWires, word, value, namedBy, gateAnswer}
 use Rattle.eval_circuit.specs.Evaluated.{each, idAt, valueCells, readCells, evalCells}
 use Rattle.eval_circuit.specs.Inside.{circuitOf, after, namedCell, stage, Past, Prepared}
+use Rattle.eval_circuit.proofs.Cases.{true-or-false}
 use Rattle.eval_circuit.proofs.Each.{each-more, each-equal, each-then}
 use Rattle.eval_circuit.proofs.Fills.{fills, each-fills, each-raised}
 use Rattle.eval_circuit.proofs.RegionCells.{region-at, region-length, region-word}
@@ -89,10 +90,6 @@ past-front front old n m e h =
     ∙ drop-append-add front (drop n old) (m - n)
     ∙ drop-drop (m - n) n old
     ∙ ap (λ (j : ℕ). drop j old) r
-
-true-or-false : (b : Bool) → (b ≡ true) ⊎ (b ≡ false)
-true-or-false true = inl refl
-true-or-false false = inr refl
 
 not-there : (number gate w n id : ℕ) (vs cs : List ℕ) → isMade w n id ≡ false → refused number gate ≡ operandAnswer number gate w n id vs cs
 unfolding operandAnswer

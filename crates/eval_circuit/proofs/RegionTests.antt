@@ -3,8 +3,8 @@
 use mathlib.Core.Path.{_≡_, refl}
 use mathlib.Core.Bool.{Bool, true, false, _||_}
 use mathlib.Core.List.{List, _∷_}
-use mathlib.Core.Logic.{⊎-elim, inl, inr}
-use Prim.Native.Nat.{ℕ, suc, _+_, _-_, _%_, _^_, _≤_, _<_}
+use mathlib.Core.Logic.{inl, inr}
+use Prim.Native.Nat.{ℕ, suc, _+_, _-_, _%_, _≤_, _<_}
 use native.Mathlib.Omega.{arith}
 use lib.Dec.{ltb, eqb}
 use lib.ListN.{length, getD, take, drop}
@@ -13,10 +13,9 @@ use borrow.Author.Tests.{lt-ltb, le-ltb, eq-eqb, ne-eqb, ltb-false, eqb-false}
 use Rattle.field.specs.Told.{Told, accepted, refused}
 use Rattle.field.specs.Field.{p, firstOver}
 use Rattle.field.proofs.Over.{over-here, over-later, over-none}
-use Rattle.field.proofs.Cases.{below?}
 use Rattle.trace.specs.Counts.{mostWires}
 use Rattle.trace.proofs.Choices.{either-holds, not-stopped}
-use Rattle.eval_circuit.specs.Evaluated.{cellsCounted, regionCells, ofRegion}
+use Rattle.eval_circuit.specs.Evaluated.{regionCells, ofRegion}
 
 neither : (a b : Bool) → a ≡ false → b ≡ false → (a || b) ≡ false
 neither true b e f = e
@@ -133,13 +132,6 @@ region-pass ptr v e cells t r =
     let h₃ = r .whole-evals in
     let h₄ = r .aligned in
     inside ptr v e cells t (r .few) (λ q. omega arith) (λ q. omega arith) (λ q. omega arith) (omega arith) (omega arith) (r .in-memory)
-
-pub most-cells : (n : ℕ) → (cellsCounted n ≤ n) × (cellsCounted n ≤ 2 ^ 32)
-most-cells n =
-    ⊎-elim
-    (λ (l : 2 ^ 32 < n). rw (lt-ltb (2 ^ 32) n l) (omega arith, omega arith))
-    (λ (l : n ≤ 2 ^ 32). rw (le-ltb (2 ^ 32) n l) (omega arith, omega arith))
-    (below? (2 ^ 32) n)
 
 -- the look at the cells from an address on
 part-one : (xs : List ℕ) (at end : ℕ) → at < end → end ≤ length xs → take (end - at) (drop at xs) ≡ getD xs at 0 ∷ take (end - (at + 1)) (drop (at + 1) xs)

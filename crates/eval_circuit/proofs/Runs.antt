@@ -24,6 +24,7 @@ use Rattle.trace.proofs.NextId.{next-none}
 use Rattle.eval_circuit.specs.Circuit.{Circuit, numWires, value, gatesAnswer}
 use Rattle.eval_circuit.specs.Evaluated.{circuitAnswer, each, idAt, valueCells, readCells, evalCells}
 use Rattle.eval_circuit.specs.Inside.{circuitOf, after, namedCell, stage, Past, Prepared, stepTold, Left, Ran}
+use Rattle.eval_circuit.proofs.Cases.{clash}
 use Rattle.eval_circuit.proofs.Each.{each-then}
 use Rattle.eval_circuit.proofs.Gates.{Passed, First, gates-pass, gates-stop, gates-accepted, gates-refused}
 use Rattle.eval_circuit.proofs.Stages.{nodes-length, values-length, counts-length, lent-equal, after-sound, stage-values, stage-counts, stage-nodes, stage-fits}
@@ -141,10 +142,7 @@ module _ (s : CircuitEvaluation) (memory : List ℕ) (ptr : ℕ) (b : Lent) (ok 
         let l′ : Left (Refused t n k) s c ptr d b = rw e at l in (
           ⊎-elim
               (λ (f : First c 0 (s .«num_eval») n k). sym (gates-stop c _ (s .«num_eval») 0 n k f))
-              (λ (a : Passed c 0 (s .«num_eval») × (accepted [] ≡ refused n k)). clash (a .1))
+              (λ (a : Passed c 0 (s .«num_eval») × (accepted [] ≡ refused n k)). clash (sym (a .1)))
               (gates-refused c (accepted []) (s .«num_eval») 0 n k (sym g′)),
           l′,
         )
-      where
-        clash : {A : Type 0} → accepted [] ≡ refused n k → A
-        clash o = let z : _≡_ {A = ℕ} 0 1 = cc in absurd (omega arith)

@@ -17,6 +17,7 @@ use Rattle.trace.specs.Read.{readStep}
 use Rattle.trace.specs.Eval.{evalStep}
 use Rattle.eval_circuit.specs.Circuit.{Circuit, word, gateAnswer, gatesAnswer}
 use Rattle.eval_circuit.specs.Inside.{circuitOf, wordAt, after, stage, Past, Prepared, stepTold, Left}
+use Rattle.eval_circuit.proofs.Cases.{clash}
 use Rattle.eval_circuit.proofs.RegionCells.{region-word}
 use Rattle.eval_circuit.proofs.Gates.{First, gate-early, gates-pass, gates-stop}
 use Rattle.eval_circuit.proofs.Stages.{read-next}
@@ -31,15 +32,12 @@ done-is r t u d e q h =
 pub not-refused : {A : Type 0} (r : StepAnswer) (t u : CircuitEvaluation) (n k : ℕ) (d e : Lent) → stepOutcome r d ≡ outcome (accepted []) u e → r ≡ Refused t n k → A
 not-refused r t u n k d e q h =
     let o : refused n k ≡ accepted [] = ap (λ (x : Outcome). x .told) (rw h at q) in
-    let z : _≡_ {A = ℕ} 0 1 = cc in
-    absurd (omega arith)
+    clash o
 
 pub stop-left : (r : StepAnswer) (s u : CircuitEvaluation) (c : Circuit) (ptr n k : ℕ) (a e b : Lent) → stepOutcome r a ≡ outcome (refused n k) u e
     → Past c (nodeCells (s .«num_read») (s .«num_eval»)) e b → (stepTold r ≡ refused n k) × Left r s c ptr a b
 stop-left (Done t) s u c ptr n k a e b q h =
-    let o : accepted [] ≡ refused n k = ap (λ (x : Outcome). x .told) q in
-    let z : _≡_ {A = ℕ} 0 1 = cc in
-    absurd (omega arith)
+    clash (sym (ap (λ (x : Outcome). x .told) q))
 stop-left (Refused t m j) s u c ptr n k a e b q h =
     (ap (λ (x : Outcome). x .told) q, subst (λ (x : Lent). Past c (nodeCells (s .«num_read») (s .«num_eval»)) x b) (sym (ap (λ (x : Outcome). x .buffers) q)) h)
 
@@ -82,11 +80,8 @@ module _ (s : CircuitEvaluation) (memory : List ℕ) (ptr : ℕ) (b : Lent) (ok 
     eval-on u d =
         ⊎-elim
         (λ (n : Next c s ptr at k b). let i = done-is r u _ left _ (step-is ∙ n .leads) d in (n .passed, i .0, i .1))
-        (λ (n : Stop c s ptr at k b). clash (ap (λ (x : Outcome). x .told) (rw d at (step-is ∙ n .ends))))
+        (λ (n : Stop c s ptr at k b). clash (sym (ap (λ (x : Outcome). x .told) (rw d at (step-is ∙ n .ends)))))
         cases
-      where
-        clash : {A : Type 0} {n j : ℕ} → accepted [] ≡ refused n j → A
-        clash o = let z : _≡_ {A = ℕ} 0 1 = cc in absurd (omega arith)
 
     pub eval-off : (u : CircuitEvaluation) (n j : ℕ) → r ≡ Refused u n j → (stepTold r ≡ gatesAnswer (s .«num_eval») 0 c (accepted [])) × Left r s c ptr left b
     eval-off u n j d =

@@ -27,6 +27,7 @@ use Rattle.trace.proofs.Answers.{open-determined}
 use Rattle.eval_circuit.specs.Circuit.{Circuit, numWires, value}
 use Rattle.eval_circuit.specs.Evaluated.{memoryCells, regionCells, circuitAt, ofCells, circuitAnswer, ofRegion, evalAnswer, each, valueCells, countCell, readCells, evalCells, filled, zeroed, cleared, buffersAfter, evalBuffers}
 use Rattle.eval_circuit.specs.Inside.{circuitOf, after, stage, Past, Prepared, Used, Ran}
+use Rattle.eval_circuit.proofs.Cases.{clash, same-refusal}
 use Rattle.eval_circuit.proofs.Gates.{First, Passed, gate-refused, gates-refused}
 use Rattle.eval_circuit.proofs.RegionCells.{memory-most, region-length, region-at, cells-pass}
 use Rattle.eval_circuit.proofs.RegionTests.{Region, region-pass}
@@ -53,9 +54,6 @@ unfolding ofCells
 cells-over ptr xs t over e h =
     let l : firstOver xs < length xs = omega arith in
     rw (e, lt-ltb (firstOver xs) (length xs) l)
-
-clash : {A : Type 0} {n k : ℕ} {vs : List ℕ} → refused n k ≡ accepted vs → A
-clash q = let z : _≡_ {A = ℕ} 0 1 = cc in absurd (omega arith)
 
 module _ (ctx clk ptr num-vars num-eval : ℕ) (memory : List ℕ) (b : Lent) where
   abbrev c : Circuit
@@ -214,7 +212,7 @@ module _ (ctx clk ptr num-vars num-eval : ℕ) (memory : List ℕ) (b : Lent) wh
             where
               by-zero : (x : Bool) (vs : List ℕ) → cond x (accepted vs) (refused 12 0) ≡ refused n k → 7 < n
               by-zero true vs z = clash (sym z)
-              by-zero false vs z = let y : 12 ≡ n = cc in omega arith
+              by-zero false vs z = let y = same-refusal z .0 in omega arith
 
           cleared-is : (n k : ℕ) → 7 < n → refused n k ≡ answer → cleared c b ≡ buffers
           unfolding evalBuffers

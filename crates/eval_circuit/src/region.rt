@@ -28,22 +28,13 @@ pub fn test_region(ptr: u64, num_vars: u64, num_eval: u64, len: usize) -> Tested
     ensures { λ r. ⌜ testedTold r ≡ ofRegion ptr «num_vars» «num_eval» (cellsCounted len) (accepted []) ⌝ }
 {
     let most = MAX_EVAL_CIRCUIT_WIRES as u64;
-    if most < num_vars {
+    if most < num_vars || most - num_vars < num_eval {
         return Tested::Refused(TOO_MANY_WIRES, 0);
     }
-    if most - num_vars < num_eval {
-        return Tested::Refused(TOO_MANY_WIRES, 0);
-    }
-    if num_vars == 0 {
+    if num_vars == 0 || num_vars % 2 == 1 {
         return Tested::Refused(BAD_READ_COUNT, 0);
     }
-    if num_vars % 2 == 1 {
-        return Tested::Refused(BAD_READ_COUNT, 0);
-    }
-    if num_eval == 0 {
-        return Tested::Refused(BAD_EVAL_COUNT, 0);
-    }
-    if 0 < num_eval % 4 {
+    if num_eval == 0 || 0 < num_eval % 4 {
         return Tested::Refused(BAD_EVAL_COUNT, 0);
     }
     if 0 < ptr % 4 {
@@ -51,10 +42,7 @@ pub fn test_region(ptr: u64, num_vars: u64, num_eval: u64, len: usize) -> Tested
     }
     let cells = cells_counted(len) as u64;
     let region = 2 * num_vars + num_eval;
-    if cells < region {
-        return Tested::Refused(OUT_OF_MEMORY, 0);
-    }
-    if cells - region < ptr {
+    if cells < region || cells - region < ptr {
         return Tested::Refused(OUT_OF_MEMORY, 0);
     }
     Tested::Passed
