@@ -4,6 +4,12 @@ pub mod Gates
 pub mod Each
 pub mod RegionCells
 pub mod RegionTests
+pub mod Fills
+pub mod Stages
+pub mod GateSteps
+pub mod Turns
+pub mod Runs
+pub mod Whole
 pub mod Accepted
 pub mod Totals
 pub mod Filled

@@ -112,8 +112,7 @@ region-of ptr v e cells t vs q =
     let v₁ : (v % 2 ≡ 1 → ⊥) = eqb-false _ _ (i .1) in
     let e₀ : (e ≡ 0 → ⊥) = eqb-false _ _ (j .0) in
     let e₁ : e % 4 ≤ 0 = ltb-false _ _ (j .1) in
-    let p₀ : ptr % 4 ≤ 0 = ltb-false _ _ (f .0) in
-    (
+    let p₀ : ptr % 4 ≤ 0 = ltb-false _ _ (f .0) in (
       record {
         few = ltb-false _ _ (a .0);
         some-vars = omega arith;

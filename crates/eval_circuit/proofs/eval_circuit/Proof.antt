@@ -1,3 +1,22 @@
+use Rattle.eval_circuit.proofs.Whole.{stops-early, stops-short, stops-over, opened-is, prepared, used-by, over-is, ends-zero, ends-otherwise}
+use Rattle.eval_circuit.proofs.RegionCells.{memory-most}
+use Rattle.eval_circuit.proofs.RegionTests.{Region, region-of}
+use Rattle.eval_circuit.specs.Inside.{Prepared, after}
+use Rattle.eval_circuit.specs.Evaluated.{memoryCells, regionCells, circuitAt}
+use Rattle.trace.specs.Inside.{testedTold}
+use Rattle.trace.specs.Open.{opened, openTold}
+use Rattle.trace.specs.Outcome.{Lent, lent}
+use Rattle.trace.specs.Counts.{room}
+use Rattle.trace.specs.declared.CircuitEvaluation.{CircuitEvaluation}
+use Rattle.field.specs.Field.{firstOver}
+use Rattle.field.specs.Told.{accepted}
+use lib.ListN.{length}
+use denote.Ref.{now}
+use native.Mathlib.Omega.{arith}
+use Prim.Native.Nat.{ℕ, _+_, _/_, _^_, _≤_}
+use mathlib.Core.List.{List, []}
+use mathlib.Core.Bool.{true}
+use mathlib.Core.Path.{_≡_, sym, ap, _∙_}
 use borrow.Author.Needs.{needs}
 use Rattle.eval_circuit.proofs.eval_circuit.Statement.{statement}
 use Rattle.eval_circuit.proofs.eval_circuit.Tie as tie
@@ -9,6 +28,53 @@ use Rattle.eval_circuit.proofs.region.test_region.Reads as test-region-
 use Rattle.eval_circuit.proofs.steps.run.Reads as run-reads
 use Rattle.trace.proofs.CircuitEvaluation.new.Reads as new-reads
 
+-- past 1 to 5
+abbrev start : tie.After-enum-told → tie.Start
+start c = c .before .before .before .before .before .before .before
+
+abbrev memory : tie.After-enum-told → List ℕ
+memory c = now (start c .args .memory)
+
+abbrev buffers : tie.After-enum-told → Lent
+buffers c = lent (now (start c .args .values)) (now (start c .args .counts)) (now (start c .args .nodes))
+
+region : (c : tie.After-enum-told) → Region (start c .args .ptr) (start c .args .num-vars) (start c .args .num-eval) (memoryCells (memory c))
+region c = region-of _ _ _ _ (accepted []) [] (sym (ap testedTold (sym (c .enum-told .given .1)) ∙ c .before .before .test-region .ensures)) .0
+
+within : (c : tie.After-enum-told) →
+    (start c .args .ptr + regionCells (start c .args .num-vars) (start c .args .num-eval) ≤ length (memory c))
+    × (start c .args .ptr + regionCells (start c .args .num-vars) (start c .args .num-eval) ≤ 2 ^ 32)
+within c = memory-most (memory c) _ (region c .in-memory)
+
+-- past 6
+abbrev at-tests : tie.After-known-told2 → tie.After-enum-told
+at-tests c = c .before .before .before .before .before .before .before
+
+abbrev state : tie.After-known-told2 → CircuitEvaluation
+state c = c .before .opened .given .0 .0
+
+opened-here : (c : tie.After-known-told2) →
+    (room (start (at-tests c) .args .num-vars / 2) (start (at-tests c) .args .num-eval) (length (buffers (at-tests c) .values)) (length (buffers (at-tests c) .counts)) (length (buffers (at-tests c) .nodes)) ≡ true)
+    × (state c ≡ opened (start (at-tests c) .args .ctx) (start (at-tests c) .args .clk) (start (at-tests c) .args .num-vars / 2) (start (at-tests c) .args .num-eval))
+opened-here c =
+    let a = start (at-tests c) .args in
+    opened-is (a .ctx) (a .clk) (a .ptr) (a .num-vars) (a .num-eval) (memory (at-tests c)) (buffers (at-tests c)) (region (at-tests c)) _ (ap openTold (sym (c .before .opened .given .1)) ∙ c .before .before .before .new .ensures)
+
+-- past 7
+over-here : (c : tie.After-first-over) → c .first-over .result ≡ start (at-tests (c .before)) .args .ptr + firstOver (circuitAt (memory (at-tests (c .before))) (start (at-tests (c .before)) .args .ptr) (start (at-tests (c .before)) .args .num-vars) (start (at-tests (c .before)) .args .num-eval) .cells)
+over-here c =
+    let a = start (at-tests (c .before)) .args in
+    over-is (memory (at-tests (c .before))) (a .ptr) (a .num-vars) (a .num-eval) _ _ (c .first-over .ensures) (omega arith)
+
+none-over : (c : tie.Else1) → start (at-tests (c .before .before)) .args .ptr + regionCells (start (at-tests (c .before .before)) .args .num-vars) (start (at-tests (c .before .before)) .args .num-eval) ≤ c .before .first-over .result
+none-over c = search needs
+
+ready : (c : tie.Else1) → Prepared (state (c .before .before)) (memory (at-tests (c .before .before))) (start (at-tests (c .before .before)) .args .ptr) (buffers (at-tests (c .before .before))) × (state (c .before .before) ≡ after (state (c .before .before)) 0 0)
+ready c =
+    let k = c .before .before in
+    let a = start (at-tests k) .args in
+    prepared (a .ctx) (a .clk) (a .ptr) (a .num-vars) (a .num-eval) (memory (at-tests k)) (buffers (at-tests k)) (region (at-tests k)) (opened-here k .0) _ (over-here (c .before)) (none-over c) _ (opened-here k .1)
+
 -- src/lib.rt:37:9
 test-region-requires : tie.Need-test-region-requires
 test-region-requires c κs = search needs
@@ -19,18 +85,18 @@ enum-known-tested c = search needs
 
 -- src/lib.rt:39:9
 returns : tie.Need-returns
-returns c = ?
+returns c = stops-early _ _ _ _ _ _ _ _ _ (ap testedTold (sym (c .before .tested .given .1)) ∙ c .before .before .before .test-region .ensures)
 
 enum-told : tie.Need-enum-told
 enum-told c = search needs
 
 -- src/lib.rt:41:20
 cast-num-read : tie.Need-cast-num-read
-cast-num-read c = ?
+cast-num-read c = let r = region c in omega arith
 
 -- src/lib.rt:42:61
 cast-new : tie.Need-cast-new
-cast-new c = ?
+cast-new c = let r = region c in omega arith
 
 -- src/lib.rt:42:9
 new-requires : tie.Need-new-requires
@@ -58,23 +124,23 @@ same-length-3 c = search needs
 
 -- src/lib.rt:45:9
 returns-2 : tie.Need-returns-2
-returns-2 c = ?
+returns-2 c = stops-short (start (c .before .before .before .before .before .before) .args .ctx) (start (c .before .before .before .before .before .before) .args .clk) _ _ _ (memory (c .before .before .before .before .before .before)) (buffers (c .before .before .before .before .before .before)) (region (c .before .before .before .before .before .before)) _ _ (ap openTold (sym (c .enum-told2 .given .1)) ∙ c .before .before .new .ensures)
 
 -- src/lib.rt:48:23
 mul-end : tie.Need-mul-end
-mul-end c = ?
+mul-end c = let r = region (at-tests c) in omega arith
 
 -- src/lib.rt:48:15
 add-end : tie.Need-add-end
-add-end c = ?
+add-end c = let r = region (at-tests c) in let m = within (at-tests c) in omega arith
 
 -- src/lib.rt:48:15
 add-end-2 : tie.Need-add-end-2
-add-end-2 c = ?
+add-end-2 c = let r = region (at-tests c) in let m = within (at-tests c) in omega arith
 
 -- src/lib.rt:49:9
 first-over-requires : tie.Need-first-over-requires
-first-over-requires c κs = ?
+first-over-requires c κs = let r = region (at-tests c) in let m = within (at-tests c) in (omega arith, omega arith)
 
 -- src/lib.rt:51:9
 same-length-4 : tie.Need-same-length-4
@@ -90,11 +156,11 @@ same-length-6 c = search needs
 
 -- src/lib.rt:51:9
 returns-3 : tie.Need-returns-3
-returns-3 c = ?
+returns-3 c = let a = start (at-tests (c .before .before)) .args in stops-over (a .ctx) (a .clk) (a .ptr) (a .num-vars) (a .num-eval) (now (a .memory)) (lent (now (a .values)) (now (a .counts)) (now (a .nodes))) (region (at-tests (c .before .before))) (opened-here (c .before .before) .0) _ (over-here (c .before)) (search needs)
 
 -- src/lib.rt:53:9
 run-requires : tie.Need-run-requires
-run-requires c κs = ?
+run-requires c κs = ready (c .before .before .before)
 
 -- src/lib.rt:54:28
 enum-known-answer : tie.Need-enum-known-answer
@@ -106,7 +172,7 @@ enum-told-3 c = search needs
 
 -- src/lib.rt:55:9
 clear-requires : tie.Need-clear-requires
-clear-requires c κs = ?
+clear-requires c κs = used-by _ _ _ _ _ _ _ (ready (c .before .before .before .before .before .before .before .before .before .before .before .before .before .before .before) .0) (c .before .before .before .before .before .before .before .before .before .before .before .run .kept .1 .1 .1 .0) (c .before .before .before .before .before .before .before .before .before .before .before .run .kept .1 .1 .1 .1 .0) (c .before .before .before .before .before .before .before .before .before .before .before .run .kept .1 .1 .1 .1 .1 .0)
 
 -- src/lib.rt:56:9
 same-length-7 : tie.Need-same-length-7
@@ -122,7 +188,11 @@ same-length-9 c = search needs
 
 -- src/lib.rt:56:9
 returns-4 : tie.Need-returns-4
-returns-4 c = ?
+returns-4 c =
+    let k = c .before .before .before .before .before .before .before .before .before .before .before .before .before .before .before .before .before .before .before .before .before .before .before .before in
+    let a = start (at-tests k) .args in
+    ends-otherwise (a .ctx) (a .clk) (a .ptr) (a .num-vars) (a .num-eval) (now (a .memory)) (lent (now (a .values)) (now (a .counts)) (now (a .nodes))) (region (at-tests k)) (opened-here k .0) _ (over-here (c .before .before .before .before .before .before .before .before .before .before .before .before .before .before .before .before .before .before .before .before .before .before .before)) (none-over (c .before .before .before .before .before .before .before .before .before .before .before .before .before .before .before .before .before .before .before .before .before .before)) _ (opened-here k .1)
+    _ (lent (c .before .before .before .before .before .before .before .before .before .before .before .before .before .before .before .before .before .before .run .last .1 .1 .1 .0) (c .before .before .before .before .before .before .before .before .before .before .before .before .before .before .before .before .before .before .run .last .1 .1 .1 .1 .0) (c .before .before .before .before .before .before .before .before .before .before .before .before .before .before .before .before .before .before .run .last .1 .1 .1 .1 .1 .0)) (c .before .before .before .before .before .before .before .before .before .before .before .before .before .before .before .before .before .before .run .ensures .0) (c .before .before .before .before .before .before .before .before .before .before .before .before .before .before .before .before .before .before .run .ensures .1) _ _ (c .before .before .before .before .before .before .before .before .before .before .enum-told3 .given .1) (c .before .before .before .before .before .before .clear .ensures .0) (c .before .before .before .before .before .before .clear .ensures .1 .0) (c .before .before .before .before .before .before .clear .ensures .1 .1)
 
 -- src/lib.rt:23:1
 same-length-10 : tie.Need-same-length-10
@@ -138,7 +208,11 @@ same-length-12 c = search needs
 
 -- src/lib.rt:23:1
 returns-5 : tie.Need-returns-5
-returns-5 c = ?
+returns-5 c =
+    let k = c .before .before .before .before .before .before .before .before .before .before .before .before .before .before .before in
+    let a = start (at-tests k) .args in
+    ends-zero (a .ctx) (a .clk) (a .ptr) (a .num-vars) (a .num-eval) (now (a .memory)) (lent (now (a .values)) (now (a .counts)) (now (a .nodes))) (region (at-tests k)) (opened-here k .0) _ (over-here (c .before .before .before .before .before .before .before .before .before .before .before .before .before .before)) (none-over (c .before .before .before .before .before .before .before .before .before .before .before .before .before)) _ (opened-here k .1)
+    _ (lent (c .before .before .before .before .before .before .before .before .before .run .last .1 .1 .1 .0) (c .before .before .before .before .before .before .before .before .before .run .last .1 .1 .1 .1 .0) (c .before .before .before .before .before .before .before .before .before .run .last .1 .1 .1 .1 .1 .0)) (c .before .before .before .before .before .before .before .before .before .run .ensures .0) (c .before .before .before .before .before .before .before .before .before .run .ensures .1) _ (c .before .answer .given .1)
 
 pub eval-circuit-spec : {M : Type 1} → statement M
 eval-circuit-spec =

@@ -31,7 +31,7 @@ shared-slice-read-if1 c = search needs
 
 -- src/region.rt:77:13
 returns : tie.Need-returns Inv-loop μ-loop
-returns c = 
+returns c =
     let l = c .before .before .before .loop in
     over-at _ _ _ (search needs) (search needs) (search needs) ∙ l .inv .2
 
@@ -45,13 +45,13 @@ loop-less c = search needs
 
 -- src/region.rt:75:5
 loop-again : tie.Need-loop-again Inv-loop μ-loop
-loop-again c = 
+loop-again c =
     let l = c .before .before .before .loop in
     (search needs, search needs, over-next _ _ _ (search needs) (search needs) (search needs) ∙ l .inv .2)
 
 -- src/region.rt:70:1
 returns-2 : tie.Need-returns-2 Inv-loop μ-loop
-returns-2 c = 
+returns-2 c =
     let l = c .before .loop in
     over-end _ _ _ (search needs) ∙ l .inv .2
 

@@ -1,3 +1,5 @@
+use Rattle.trace.specs.Outcome.{lent}
+use Rattle.eval_circuit.proofs.Runs.{run-done, run-refused}
 use borrow.Author.Needs.{needs}
 use Rattle.eval_circuit.proofs.steps.run.Statement.{statement}
 use Rattle.eval_circuit.proofs.steps.run.Tie as tie
@@ -36,7 +38,7 @@ same-length-3 c = search needs
 
 -- src/steps.rt:104:1
 returns : tie.Need-returns
-returns c = ?
+returns c = run-done _ _ _ _ (c .before .before .before .before .before .before .before .before .before .before .before .before .before .before .before .before .before .before .before .before .before .pre .0) _ (lent (c .before .before .before .before .before .before .before .before .before .before .before .before .before .do-steps .last .1 .1 .1 .0) (c .before .before .before .before .before .before .before .before .before .before .before .before .before .do-steps .last .1 .1 .1 .1 .0) (c .before .before .before .before .before .before .before .before .before .before .before .before .before .do-steps .last .1 .1 .1 .1 .1 .0)) (c .before .before .before .before .before .before .before .before .before .before .before .before .before .do-steps .ensures .0) (c .before .before .before .before .before .before .before .before .before .before .before .before .before .do-steps .ensures .1) _ (c .output-value .result) (c .before .before .before .before .before .steps .given .1) (c .output-value .ensures)
 
 -- src/steps.rt:104:1
 same-length-4 : tie.Need-same-length-4
@@ -52,7 +54,7 @@ same-length-6 c = search needs
 
 -- src/steps.rt:104:1
 returns-2 : tie.Need-returns-2
-returns-2 c = ?
+returns-2 c = run-refused _ _ _ _ (c .before .before .before .before .before .before .before .before .before .before .before .before .before .before .before .before .before .pre .0) _ (lent (c .before .before .before .before .before .before .before .before .before .do-steps .last .1 .1 .1 .0) (c .before .before .before .before .before .before .before .before .before .do-steps .last .1 .1 .1 .1 .0) (c .before .before .before .before .before .before .before .before .before .do-steps .last .1 .1 .1 .1 .1 .0)) (c .before .before .before .before .before .before .before .before .before .do-steps .ensures .0) (c .before .before .before .before .before .before .before .before .before .do-steps .ensures .1) _ _ _ (c .before .steps2 .given .1)
 
 pub run-spec : {M : Type 1} → statement M
 run-spec =
