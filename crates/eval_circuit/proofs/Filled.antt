@@ -4,13 +4,14 @@ use mathlib.Core.Path.{_≡_, refl, ap, ap₂, _∙_}
 use mathlib.Core.List.{List, _++_, append-assoc}
 use Prim.Native.Nat.{ℕ, _+_, _*_, _/_, _≤_, _<_}
 use native.Mathlib.Omega.{arith}
-use lib.ListN.{length, getD, drop, length-append}
+use lib.ListN.{length, getD, drop}
 use Rattle.field.specs.Pair.{pair}
 use Rattle.trace.specs.Counts.{nodeCells}
 use Rattle.trace.specs.Outcome.{Lent, valueAt}
 use Rattle.eval_circuit.specs.Circuit.{Circuit, numWires, value, multiplicity}
 use Rattle.eval_circuit.specs.Evaluated.{each, idAt, valueCells, countCell, readCells, evalCells, filled}
-use Rattle.eval_circuit.proofs.Each.{each-length, each-then, each-rest, front-kept, front-length}
+use Rattle.eval_circuit.proofs.Stages.{values-length, counts-length, nodes-length}
+use Rattle.eval_circuit.proofs.Each.{each-then, each-rest, front-kept, front-length}
 
 module _ (c : Circuit) (ptr : ℕ) (b : Lent) where
   value-cell : (k j : ℕ) → k < numWires c → j < 2 → getD (filled c ptr b .values) (2 * k + j) 0 ≡ getD (valueCells c k) j 0
@@ -51,39 +52,28 @@ module _ (c : Circuit) (ptr : ℕ) (b : Lent) where
       ∙ each-rest (readCells c ptr) 7 (λ i. refl) (c .vars / 2) (11 * k + j) (evals ++ rest)
       ∙ each-then (evalCells c ptr) 11 (λ i. refl) (c .gates) k j rest h l
 
-  -- how many cells are used of each buffer
+  -- the used cells of the values and of the counts
   abbrev values-made : List ℕ
   values-made = each (valueCells c) (numWires c)
 
   abbrev counts-made : List ℕ
   counts-made = each (countCell c) (numWires c)
 
-  values-used : length values-made ≡ 2 * numWires c
-  values-used = each-length (valueCells c) 2 (λ i. refl) (numWires c)
-
-  counts-used : length counts-made ≡ numWires c
-  counts-used = omega (arith, each-length (countCell c) 1 (λ i. refl) (numWires c))
-
-  nodes-used : length (reads ++ evals) ≡ nodeCells (c .vars / 2) (c .gates)
-  nodes-used =
-      length-append reads evals
-      ∙ ap₂ (λ (x y : ℕ). x + y) (each-length (readCells c ptr) 7 (λ i. refl) (c .vars / 2)) (each-length (evalCells c ptr) 11 (λ i. refl) (c .gates))
-
   -- "cells past those used never change"
   pub values-kept : (i : ℕ) → 2 * numWires c ≤ i → getD (filled c ptr b .values) i 0 ≡ getD (b .values) i 0
-  values-kept i h = front-kept values-made (b .values) _ values-used i h
+  values-kept i h = front-kept values-made (b .values) _ (values-length c (numWires c)) i h
 
   pub counts-kept : (i : ℕ) → numWires c ≤ i → getD (filled c ptr b .counts) i 0 ≡ getD (b .counts) i 0
-  counts-kept i h = front-kept counts-made (b .counts) _ counts-used i h
+  counts-kept i h = front-kept counts-made (b .counts) _ (counts-length c (c .gates) (numWires c)) i h
 
   pub nodes-kept : (i : ℕ) → nodeCells (c .vars / 2) (c .gates) ≤ i → getD (filled c ptr b .nodes) i 0 ≡ getD (b .nodes) i 0
-  nodes-kept i h = front-kept (reads ++ evals) (b .nodes) _ nodes-used i h
+  nodes-kept i h = front-kept (reads ++ evals) (b .nodes) _ (nodes-length c ptr (c .vars / 2) (c .gates)) i h
 
-  pub values-length : 2 * numWires c ≤ length (b .values) → length (filled c ptr b .values) ≡ length (b .values)
-  values-length h = front-length values-made (b .values) _ values-used h
+  pub length-values-filled : 2 * numWires c ≤ length (b .values) → length (filled c ptr b .values) ≡ length (b .values)
+  length-values-filled h = front-length values-made (b .values) _ (values-length c (numWires c)) h
 
-  pub counts-length : numWires c ≤ length (b .counts) → length (filled c ptr b .counts) ≡ length (b .counts)
-  counts-length h = front-length counts-made (b .counts) _ counts-used h
+  pub length-counts-filled : numWires c ≤ length (b .counts) → length (filled c ptr b .counts) ≡ length (b .counts)
+  length-counts-filled h = front-length counts-made (b .counts) _ (counts-length c (c .gates) (numWires c)) h
 
-  pub nodes-length : nodeCells (c .vars / 2) (c .gates) ≤ length (b .nodes) → length (filled c ptr b .nodes) ≡ length (b .nodes)
-  nodes-length h = front-length (reads ++ evals) (b .nodes) _ nodes-used h
+  pub length-nodes-filled : nodeCells (c .vars / 2) (c .gates) ≤ length (b .nodes) → length (filled c ptr b .nodes) ≡ length (b .nodes)
+  length-nodes-filled h = front-length (reads ++ evals) (b .nodes) _ (nodes-length c ptr (c .vars / 2) (c .gates)) h

@@ -18,7 +18,7 @@ use Rattle.eval_circuit.proofs.Values.{value-read, value-gate}
 use Rattle.eval_circuit.proofs.RegionCells.{region-at, region-word}
 use Rattle.eval_circuit.proofs.Accepted.{Valid, accepted-valid}
 use Rattle.eval_circuit.proofs.Totals.{total, total-same, total-back, multiplicity-total}
-use Rattle.eval_circuit.proofs.Filled.{filled-value, filled-count, filled-read, filled-eval, values-kept, counts-kept, nodes-kept, values-length, counts-length, nodes-length}
+use Rattle.eval_circuit.proofs.Filled.{filled-value, filled-count, filled-read, filled-eval, values-kept, counts-kept, nodes-kept, length-values-filled, length-counts-filled, length-nodes-filled}
 
 module _ (ctx clk ptr num-vars num-eval : ℕ) (memory : List ℕ) (b : Lent) where
   abbrev circuit : Circuit
@@ -110,10 +110,10 @@ module _ (ctx clk ptr num-vars num-eval : ℕ) (memory : List ℕ) (b : Lent) wh
 
     -- nor do the lengths
     pub length-values : length (after .values) ≡ length (b .values)
-    length-values = ap (λ (x : Lent). length (x .values)) accepted-filled ∙ values-length circuit ptr b (valid .room-values)
+    length-values = ap (λ (x : Lent). length (x .values)) accepted-filled ∙ length-values-filled circuit ptr b (valid .room-values)
 
     pub length-counts : length (after .counts) ≡ length (b .counts)
-    length-counts = ap (λ (x : Lent). length (x .counts)) accepted-filled ∙ counts-length circuit ptr b (valid .room-counts)
+    length-counts = ap (λ (x : Lent). length (x .counts)) accepted-filled ∙ length-counts-filled circuit ptr b (valid .room-counts)
 
     pub length-nodes : length (after .nodes) ≡ length (b .nodes)
-    length-nodes = ap (λ (x : Lent). length (x .nodes)) accepted-filled ∙ nodes-length circuit ptr b (valid .room-nodes)
+    length-nodes = ap (λ (x : Lent). length (x .nodes)) accepted-filled ∙ length-nodes-filled circuit ptr b (valid .room-nodes)
