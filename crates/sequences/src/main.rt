@@ -9,8 +9,8 @@ mod cells;
 mod question;
 
 use crate::calls::Reply;
-use crate::cells::Case;
 use crate::cells::COUNTS;
+use crate::cells::Case;
 use crate::cells::NODES;
 use crate::cells::VALUES;
 use crate::question::NUMBERS;
@@ -144,7 +144,15 @@ fn answer_all(s: &[u8]) {
         let old_nodes = nodes;
         let reply = calls::reply_to(asked, numbers, case, &mut values, &mut counts, &mut nodes);
         case = calls::case_after(case, reply);
-        say_answer(reply, &old_values, &old_counts, &old_nodes, &values, &counts, &nodes);
+        say_answer(
+            reply,
+            &old_values,
+            &old_counts,
+            &old_nodes,
+            &values,
+            &counts,
+            &nodes,
+        );
         at = asked.next;
     }
 }
