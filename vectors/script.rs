@@ -51,13 +51,9 @@ pub fn exact([_, _, num_read, num_eval]: [u32; 4]) -> [usize; 3] {
     needs(num_read, num_eval).map(|need| need as usize)
 }
 
-/// The value cell of the wire with an id.
-pub fn cell(state: &State, id: u64) -> usize {
-    2 * position(state, id)
-}
-
-pub fn position(state: &State, id: u64) -> usize {
-    state.num_wires() - 1 - id as usize
+/// Of the wire with an id, among the seven.
+pub fn position(id: u64) -> usize {
+    6 - id as usize
 }
 
 pub struct Script(pub Vec<Question>);
@@ -79,20 +75,33 @@ impl Script {
         self.ask_with(ALL, state, cells, Question::Eval(20, word));
     }
 
+    /// Every call, with the last wire zero: each passes where it is its turn.
     pub fn calls(&mut self, lent: [usize; 3], state: State) {
         for call in calls() {
-            self.ask(lent, state, call);
+            self.ask_with(lent, state, &last_wire([0, 0]), call);
         }
     }
 }
 
-/// Each passes on canaries where it is its turn, but for the result.
 pub fn calls() -> [Question; 3] {
     [
         Question::Read(20, GOOD_WORD),
         Question::Eval(21, word(2, 6, 5)),
         Question::Result,
     ]
+}
+
+pub fn value(id: u64, [a, b]: [u64; 2]) -> [Question; 2] {
+    let first = 2 * position(id);
+    [Question::Value(first, a), Question::Value(first + 1, b)]
+}
+
+pub fn count(id: u64, count: u32) -> Question {
+    Question::Count(position(id), count)
+}
+
+pub fn last_wire(pair: [u64; 2]) -> [Question; 2] {
+    value(0, pair)
 }
 
 pub fn seven(reads: u32, evals: u32) -> State {

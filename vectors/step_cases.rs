@@ -3,10 +3,9 @@
 
 use crate::field::{ID_BITS, P};
 use crate::script::{
-    calls, cell, exact, position, seven, sound_states, word, Script, ALL, GOOD_WORD, OPENINGS,
-    SEVEN_WIRES,
+    calls, count, exact, last_wire, seven, sound_states, value, word, Script, ALL, GOOD_WORD,
+    OPENINGS, SEVEN_WIRES,
 };
-use crate::steps::State;
 use crate::Question;
 
 const LISTING: [u32; 4] = [0, 7, 1, 4];
@@ -24,12 +23,6 @@ const NEAR_FULL: [u32; 3] = [u32::MAX - 2, u32::MAX - 1, u32::MAX];
 
 /// An opcode that is refused, with ids that are made.
 const NO_OPCODE: u64 = 3;
-
-/// The last wire's cells.
-fn last_wire(state: &State, [a, b]: [u64; 2]) -> [Question; 2] {
-    let last = cell(state, 0);
-    [Question::Value(last, a), Question::Value(last + 1, b)]
-}
 
 /// Enough, and each buffer one short, one over and empty.
 fn lengths_near(lent: [usize; 3]) -> Vec<[usize; 3]> {
@@ -81,13 +74,35 @@ fn listing(script: &mut Script) {
 /// Every call on every state that calls give, with room enough and near it.
 fn turns(script: &mut Script) {
     for state in sound_states() {
-        script.calls(exact(SEVEN_WIRES), state);
         for lent in lengths_near(exact(SEVEN_WIRES)) {
-            let zero = last_wire(&state, [0, 0]);
-            for call in calls() {
-                script.ask_with(lent, state, &zero, call);
-            }
+            script.calls(lent, state);
         }
+    }
+}
+
+/// What a call does not look at, out of every range: wires that are not made yet, the nodes, and for
+/// the result all wires but the last.
+fn not_looked_at(script: &mut Script) {
+    for state in sound_states() {
+        let [values, counts, nodes] = exact(SEVEN_WIRES);
+        let from = if state.made() == counts {
+            0
+        } else {
+            state.made()
+        };
+        let mut cells: Vec<Question> = Vec::new();
+        cells.extend((2 * from..values).map(|i| Question::Value(i, u64::MAX)));
+        cells.extend((from..counts).map(|i| Question::Count(i, u32::MAX)));
+        cells.extend((0..nodes).map(|i| Question::Node(i, P)));
+        let call = if state.lacks_reads() {
+            Question::Read(20, GOOD_WORD)
+        } else if state.lacks_evals() {
+            Question::Eval(21, word(1, 6, 3))
+        } else {
+            cells.extend(last_wire([0, 0]));
+            Question::Result
+        };
+        script.ask_with(exact(SEVEN_WIRES), state, &cells, call);
     }
 }
 
@@ -134,17 +149,11 @@ fn gates(script: &mut Script) {
         [[P - 1, 0], [1, P - 1]],
         [[1 << 32, (1 << 32) - 1], [(1 << 32) + 1, 1 << 63]],
     ];
-    let state = seven(2, 0);
     for [left, right] in pairs {
         for opcode in 0..3 {
-            let numbers = [left, right].concat();
-            let places = [6, 3].map(|id| cell(&state, id));
-            let cells: Vec<Question> = [places[0], places[0] + 1, places[1], places[1] + 1]
-                .into_iter()
-                .zip(numbers)
-                .map(|(i, number)| Question::Value(i, number))
-                .collect();
-            script.eval_with(state, &cells, word(opcode, 6, 3));
+            let cells = [value(6, left), value(3, right)].concat();
+            script.eval_with(seven(2, 0), &cells, word(opcode, 6, 3));
+            script.eval_with(seven(2, 2), &cells, word(opcode, 3, 3));
         }
     }
 }
@@ -152,8 +161,7 @@ fn gates(script: &mut Script) {
 /// Every id and some past the wires, on the left, on the right and on both sides.
 fn operand_ids(script: &mut Script) {
     for state in [seven(2, 0), seven(2, 1), seven(2, 2)] {
-        let num_wires = state.num_wires() as u64;
-        for id in (0..num_wires + 2).chain([32_767, (1 << ID_BITS) - 1]) {
+        for id in (0..9).chain([32_767, (1 << ID_BITS) - 1]) {
             for (opcode, [left, right]) in (0..3).zip([[id, 6], [6, id], [id, id]]) {
                 script.eval_with(state, &[], word(opcode, left, right));
             }
@@ -163,7 +171,6 @@ fn operand_ids(script: &mut Script) {
 
 fn counts(script: &mut Script) {
     let state = seven(2, 1);
-    let count = |id, count| Question::Count(position(&state, id), count);
     for left in NEAR_FULL {
         for right in NEAR_FULL {
             let cells = [count(5, left), count(2, right)];
@@ -179,14 +186,10 @@ fn counts(script: &mut Script) {
 /// Stored cells near p, alone and with each reason that comes before or after.
 fn stored(script: &mut Script) {
     let state = seven(2, 2);
-    let full = |id| Question::Count(position(&state, id), u32::MAX);
+    let full = |id| count(id, u32::MAX);
     for number in NEAR_P {
         for id in [1, 4] {
-            let first = cell(&state, id);
-            let cells = [
-                Question::Value(first, number),
-                Question::Value(first + 1, number),
-            ];
+            let cells = value(id, [number; 2]);
             for held in [&cells[..1], &cells[1..], &cells] {
                 let with = |more: &[Question]| [held, more].concat();
                 for (left, right) in [(4, 1), (4, 4), (1, 1), (3, 4), (id, 0), (0, id), (7, id)] {
@@ -198,7 +201,7 @@ fn stored(script: &mut Script) {
             }
         }
         // A cell that no operand has.
-        script.eval_with(state, &last_wire(&state, [number; 2]), word(2, 5, 3));
+        script.eval_with(state, &last_wire([number; 2]), word(2, 5, 3));
     }
 }
 
@@ -215,12 +218,9 @@ fn results(script: &mut Script) {
     ];
     for state in sound_states() {
         for pair in pairs {
-            let mut cells = last_wire(&state, pair).to_vec();
-            script.ask_with(exact(SEVEN_WIRES), state, &cells, Question::Result);
-            for id in [1, 3] {
-                let first = cell(&state, id);
-                cells.extend([Question::Value(first, 0), Question::Value(first + 1, 0)]);
-            }
+            let last = last_wire(pair);
+            script.ask_with(exact(SEVEN_WIRES), state, &last, Question::Result);
+            let cells = [last, value(1, [0, 0]), value(3, [0, 0])].concat();
             script.ask_with(ALL, state, &cells, Question::Result);
         }
     }
@@ -231,6 +231,7 @@ pub fn questions() -> Vec<Question> {
     opening(&mut script);
     listing(&mut script);
     turns(&mut script);
+    not_looked_at(&mut script);
     handed(&mut script);
     gates(&mut script);
     operand_ids(&mut script);
