@@ -1,1 +1,5 @@
+pub mod Choices
 pub mod Tests
+pub mod StepTests
+pub mod Writes
+pub mod Ways

@@ -1,46 +1,18 @@
 -- What the tests say of the numbers, both ways.
 -- Assumes nothing.
 use mathlib.Core.Path.{_≡_, refl, sym, ap, _∙_}
-use mathlib.Core.Bool.{Bool, true, false, cond, _&&_, _||_}
-use mathlib.Core.List.{List, [], _∷_}
+use mathlib.Core.Bool.{Bool, true, false, _&&_, _||_}
+use mathlib.Core.List.{List, []}
 use mathlib.Core.Logic.{_⊎_, ⊎-elim, inl, inr}
-use Prim.Native.Nat.{ℕ, _+_, _*_, _≤_, _<_}
+use Prim.Native.Nat.{ℕ, _*_, _≤_, _<_}
 use native.Mathlib.Omega.{arith}
 use lib.Dec.{ltb, leb, eqb}
-use lib.ListN.{length}
 use borrow.Author.Tests.{ltb-true, leb-true, eqb-true, ltb-false, eqb-false, lt-ltb, le-ltb, le-leb, lt-leb, eq-eqb, ne-eqb}
 use Rattle.field.specs.Told.{Told, accepted, refused}
-use Rattle.field.specs.Field.{p}
 use Rattle.trace.specs.declared.CircuitEvaluation.{CircuitEvaluation}
-use Rattle.trace.specs.Counts.{mostWires, wires, ofCounts, nodeCells, room, withRoom}
-use Rattle.trace.specs.State.{wiresOf, madeOf, nextId, isAccepted, sound, readTurn, evalTurn, inTurn}
-use Rattle.trace.specs.Outcome.{Lent, lent, fits}
-
--- booleans
-pub both : (a b : Bool) → (a && b) ≡ true → (a ≡ true) × (b ≡ true)
-both true b e = (refl, e)
-both false b e = (e, let z : _≡_ {A = ℕ} 0 1 = cc in absurd (omega arith))
-
-pub both-hold : (a b : Bool) → a ≡ true → b ≡ true → (a && b) ≡ true
-both-hold true b e f = f
-both-hold false b e f = e
-
-either : (a b : Bool) → (a || b) ≡ true → (a ≡ true) ⊎ (b ≡ true)
-either true b e = inl refl
-either false b e = inr e
-
-either-holds : (a b : Bool) → (a ≡ true) ⊎ (b ≡ true) → (a || b) ≡ true
-either-holds true b e = refl
-either-holds false b e = ⊎-elim (λ f. cc) (λ f. f) e
-
--- a test that lets pass
-pub passes : (b : Bool) (t : Told) (number place : ℕ) (vs : List ℕ) → cond b t (refused number place) ≡ accepted vs → (b ≡ true) × (t ≡ accepted vs)
-passes true t n k vs e = (refl, e)
-passes false t n k vs e = let z : _≡_ {A = ℕ} 0 1 = cc in absurd (omega arith)
-
-pub stops : (b : Bool) (t : Told) (number place : ℕ) (vs : List ℕ) → cond b (refused number place) t ≡ accepted vs → (b ≡ false) × (t ≡ accepted vs)
-stops false t n k vs e = (refl, e)
-stops true t n k vs e = let z : _≡_ {A = ℕ} 0 1 = cc in absurd (omega arith)
+use Rattle.trace.specs.Counts.{mostWires, wires, ofCounts, nodeCells, room}
+use Rattle.trace.specs.State.{wiresOf, madeOf, nextId, isAccepted, sound, readTurn, evalTurn}
+use Rattle.trace.proofs.Choices.{both, both-hold, first-fails, second-fails, first-holds, either, either-holds, not-stopped}
 
 -- counts that opening accepts
 pub record Counts (most num-read num-eval : ℕ) : Type 0 where
@@ -51,13 +23,12 @@ pub record Counts (most num-read num-eval : ℕ) : Type 0 where
 pub counts-of : (most num-read num-eval : ℕ) (t : Told) (vs : List ℕ) → ofCounts most num-read num-eval t ≡ accepted vs → Counts most num-read num-eval × (t ≡ accepted vs)
 unfolding ofCounts
 counts-of most r e t vs q =
-    let a = stops (ltb most (wires r e)) _ 1 0 vs q in
-    let b = stops (eqb r 0) _ 2 0 vs (a .1) in
-    let d = stops (eqb e 0) _ 3 0 vs (b .1) in
-    let n₁ = ltb-false _ _ (a .0) in
-    let n₂ = eqb-false _ _ (b .0) in
-    let n₃ = eqb-false _ _ (d .0) in
-    (record { few = n₁; reads = omega arith; evals = omega arith }, d .1)
+    let a = not-stopped (ltb most (wires r e)) _ 1 0 vs q in
+    let b = not-stopped (eqb r 0) _ 2 0 vs (a .1) in
+    let d = not-stopped (eqb e 0) _ 3 0 vs (b .1) in
+    let n₂ : (r ≡ 0 → ⊥) = eqb-false _ _ (b .0) in
+    let n₃ : (e ≡ 0 → ⊥) = eqb-false _ _ (d .0) in
+    (record { few = ltb-false _ _ (a .0); reads = omega arith; evals = omega arith }, d .1)
 
 pub counts-pass : (most num-read num-eval : ℕ) (t : Told) → Counts most num-read num-eval → ofCounts most num-read num-eval t ≡ t
 unfolding ofCounts
@@ -127,3 +98,80 @@ room-of r e lv lc ln q =
     let a = both _ _ q in
     let b = both _ _ (a .1) in
     record { for-values = leb-true _ _ (a .0); for-counts = leb-true _ _ (b .0); for-nodes = leb-true _ _ (b .1) }
+
+-- what each test comes to, in document 01's order
+
+pub too-many : (most num-read num-eval : ℕ) (t : Told) → most < wires num-read num-eval → refused 1 0 ≡ ofCounts most num-read num-eval t
+unfolding ofCounts
+too-many most r e t h = rw (lt-ltb most (wires r e) h)
+
+pub no-reads : (most num-read num-eval : ℕ) (t : Told) → wires num-read num-eval ≤ most → num-read ≡ 0 → refused 2 0 ≡ ofCounts most num-read num-eval t
+unfolding ofCounts
+no-reads most r e t h z = rw (le-ltb most (wires r e) h, eq-eqb r 0 z)
+
+pub no-evals : (most num-read num-eval : ℕ) (t : Told) → wires num-read num-eval ≤ most → (num-read ≡ 0 → ⊥) → num-eval ≡ 0 → refused 3 0 ≡ ofCounts most num-read num-eval t
+unfolding ofCounts
+no-evals most r e t h n z = rw (le-ltb most (wires r e) h, ne-eqb r 0 n, eq-eqb e 0 z)
+
+pub counts-in-order : (most num-read num-eval : ℕ) (t : Told) → wires num-read num-eval ≤ most → (num-read ≡ 0 → ⊥) → (num-eval ≡ 0 → ⊥) → t ≡ ofCounts most num-read num-eval t
+unfolding ofCounts
+counts-in-order most r e t h n m = rw (le-ltb most (wires r e) h, ne-eqb r 0 n, ne-eqb e 0 m)
+
+pub short-values : (num-read num-eval values counts nodes : ℕ) → values < 2 * wires num-read num-eval → false ≡ room num-read num-eval values counts nodes
+unfolding room
+short-values r e lv lc ln h = sym (first-fails _ _ (lt-leb (2 * wires r e) lv h))
+
+pub short-counts : (num-read num-eval values counts nodes : ℕ) → counts < wires num-read num-eval → false ≡ room num-read num-eval values counts nodes
+unfolding room
+short-counts r e lv lc ln h =
+    sym
+    (second-fails (leb (2 * wires r e) lv) _
+    (first-fails (leb (wires r e) lc) (leb (nodeCells r e) ln) (lt-leb (wires r e) lc h)))
+
+pub room-by-nodes : (num-read num-eval values counts nodes : ℕ) → 2 * wires num-read num-eval ≤ values → wires num-read num-eval ≤ counts
+    → leb (nodeCells num-read num-eval) nodes ≡ room num-read num-eval values counts nodes
+unfolding room
+room-by-nodes r e lv lc ln h k = sym (first-holds _ _ (le-leb (2 * wires r e) lv h) ∙ first-holds _ _ (le-leb (wires r e) lc k))
+
+-- a state that is not sound, whichever test finds it
+module _ (s : CircuitEvaluation) where
+  abbrev counts-pass? : Bool
+  counts-pass? = isAccepted (ofCounts mostWires (s .«num_read») (s .«num_eval») (accepted []))
+
+  abbrev in-order? : Bool
+  in-order? = eqb (s .«evals_done») 0 || eqb (s .«reads_done») (s .«num_read»)
+
+  abbrev reads? : Bool
+  reads? = leb (s .«reads_done») (s .«num_read»)
+
+  abbrev evals? : Bool
+  evals? = leb (s .«evals_done») (s .«num_eval»)
+
+  abbrev id? : Bool
+  id? = eqb (s .«id_next») (nextId (wiresOf s) (madeOf s))
+
+  pub bad-counts : (number place : ℕ) → refused number place ≡ ofCounts mostWires (s .«num_read») (s .«num_eval») (accepted []) → false ≡ sound s
+  unfolding sound
+  bad-counts n k e = sym (first-fails counts-pass? (reads? && (evals? && (in-order? && id?))) (ap isAccepted (sym e)))
+
+  pub reads-past : s .«num_read» < s .«reads_done» → false ≡ sound s
+  unfolding sound
+  reads-past h = sym (second-fails counts-pass? _ (first-fails reads? (evals? && (in-order? && id?)) (lt-leb _ _ h)))
+
+  pub evals-past : s .«num_eval» < s .«evals_done» → false ≡ sound s
+  unfolding sound
+  evals-past h = sym (second-fails counts-pass? _ (second-fails reads? _ (first-fails evals? (in-order? && id?) (lt-leb _ _ h))))
+
+  pub out-of-order : in-order? ≡ false → false ≡ sound s
+  unfolding sound
+  out-of-order h = sym (second-fails counts-pass? _ (second-fails reads? _ (second-fails evals? _ (first-fails in-order? id? h))))
+
+  pub sound-by-id : accepted [] ≡ ofCounts mostWires (s .«num_read») (s .«num_eval») (accepted []) → s .«reads_done» ≤ s .«num_read» → s .«evals_done» ≤ s .«num_eval» → in-order? ≡ true
+      → eqb (s .«id_next») (nextId (wiresOf s) (madeOf s)) ≡ sound s
+  unfolding sound
+  sound-by-id e hr he o =
+      sym
+      (first-holds counts-pass? (reads? && (evals? && (in-order? && id?))) (ap isAccepted (sym e))
+      ∙ first-holds reads? (evals? && (in-order? && id?)) (le-leb _ _ hr)
+      ∙ first-holds evals? (in-order? && id?) (le-leb _ _ he)
+      ∙ first-holds in-order? id? o)

@@ -15,7 +15,7 @@ use Rattle.trace.specs.declared.wire_bus.Operand.{Operand}
 use Rattle.trace.specs.declared.wire_bus.Operand.the-variants as operand
 use Rattle.trace.specs.declared.nodes.ReadNode.{ReadNode}
 use Rattle.trace.specs.declared.nodes.EvalNode.{EvalNode}
-use Rattle.trace.specs.Counts.{mostWires, wires, nodeCells}
+use Rattle.trace.specs.Counts.{mostWires, nodeCells}
 use Rattle.trace.specs.State.{wiresOf, madeOf}
 use Rattle.trace.specs.Read.{readNode}
 use Rattle.trace.specs.Eval.{evalNode, raised}
@@ -46,19 +46,22 @@ abbrev pub countsAfter : Told → ℕ → List ℕ → List ℕ
 countsAfter (accepted vs) k cs = raised k cs
 countsAfter (refused number place) k cs = cs
 
--- the bus of a state, and the bus with one more wire
+-- the bus of a state, and a bus with one more wire
+abbrev pub bus : ℕ → ℕ → WireBus
+bus n m = record { «num_wires» = n; made = m }
+
 abbrev pub busOf : CircuitEvaluation → WireBus
-busOf s = record { «num_wires» = wiresOf s; made = madeOf s }
+busOf s = bus (wiresOf s) (madeOf s)
 
 abbrev pub inserted : WireBus → WireBus
-inserted bus = record { «num_wires» = bus .«num_wires»; made = bus .made + 1 }
+inserted w = bus (w .«num_wires») (w .made + 1)
 
 -- the bus's wires have their cells and counts
-pub record BusRoom (bus : WireBus) (vs cs : List ℕ) : Type 0 where
-  pub bus-few : bus .«num_wires» ≤ mostWires
-  pub bus-made : bus .made ≤ bus .«num_wires»
-  pub bus-values : 2 * bus .«num_wires» ≤ length vs
-  pub bus-counts : bus .«num_wires» ≤ length cs
+pub record BusRoom (w : WireBus) (vs cs : List ℕ) : Type 0 where
+  pub bus-few : w .«num_wires» ≤ mostWires
+  pub bus-made : w .made ≤ w .«num_wires»
+  pub bus-values : 2 * w .«num_wires» ≤ length vs
+  pub bus-counts : w .«num_wires» ≤ length cs
 
 -- a circuit that opening accepts, and room for it
 pub record Room (s : CircuitEvaluation) (vs cs ns : List ℕ) : Type 0 where

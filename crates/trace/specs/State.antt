@@ -1,6 +1,6 @@
 -- The state of an evaluation between its steps.
 -- Assumes nothing.
-use Prim.Native.Nat.{ℕ, _+_, _*_}
+use Prim.Native.Nat.{ℕ, _+_}
 use mathlib.Core.Bool.{Bool, true, false, cond, _&&_, _||_}
 use mathlib.Core.List.{[]}
 use lib.Dec.{ltb, leb, eqb}

@@ -153,11 +153,11 @@ impl CircuitEvaluation {
         if let Tested::Refused(number, place) = tested {
             return StepAnswer::Refused(self, number, place);
         }
+        let gate = self.evals_done as u64;
         let decoded = decode_instruction(instruction);
         let DecodeAnswer::Instruction(id_l, id_r, op) = decoded else {
-            return StepAnswer::Refused(self, NOT_INSTRUCTION, self.evals_done as u64);
+            return StepAnswer::Refused(self, NOT_INSTRUCTION, gate);
         };
-        let gate = self.evals_done as u64;
         let bus = self.wire_bus();
         // "As in the Rust, the left count is raised before the right operand is looked at, and
         // stays raised where the right is refused."

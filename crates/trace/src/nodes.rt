@@ -6,6 +6,10 @@ ghost use lib.ListN.{length};
 ghost use lib.Seq.{sets};
 ghost use Rattle.trace.specs.Inside.{readCells, evalCells};
 
+pub const READ_CELLS: usize = 7;
+
+pub const EVAL_CELLS: usize = 11;
+
 pub struct ReadNode {
     pub ptr: u64,
     pub id_0: u64,
@@ -26,7 +30,7 @@ pub struct EvalNode {
 }
 
 impl ReadNode {
-    pub fn put(self, nodes: &mut [u64], at: usize)
+    pub(crate) fn put(self, nodes: &mut [u64], at: usize)
         requires { ⌜ at + 7 ≤ length (now nodes) ⌝ }
         ensures { λ _. ⌜ now (nodes .exit) ≡ sets (now (nodes .entry)) at (readCells self) ⌝ }
     {
@@ -41,7 +45,7 @@ impl ReadNode {
 }
 
 impl EvalNode {
-    pub fn put(self, nodes: &mut [u64], at: usize)
+    pub(crate) fn put(self, nodes: &mut [u64], at: usize)
         requires { ⌜ at + 11 ≤ length (now nodes) ⌝ }
         ensures { λ _. ⌜ now (nodes .exit) ≡ sets (now (nodes .entry)) at (evalCells self) ⌝ }
     {

@@ -20,6 +20,8 @@ use crate::OUT_OF_TURN;
 use crate::SHORT_BUFFER;
 use crate::TOO_MANY_WIRES;
 use crate::Tested;
+use crate::nodes::EVAL_CELLS;
+use crate::nodes::READ_CELLS;
 use field::NOT_ELEMENT;
 use field::P;
 
@@ -51,7 +53,7 @@ pub fn has_room(num_read: u32, num_eval: u32, values: usize, counts: usize, node
     if counts < num_wires {
         return false;
     }
-    7 * reads + 11 * evals <= nodes
+    READ_CELLS * reads + EVAL_CELLS * evals <= nodes
 }
 
 // The first of the numbers handed to a READ step that is p or more, the pointer being last.
@@ -77,13 +79,13 @@ fn first_over(ptr: u64, word: [[u64; 2]; 2]) -> u64
 }
 
 impl CircuitEvaluation {
-    pub fn num_wires(self) -> usize
+    pub(crate) fn num_wires(self) -> usize
         ensures { λ r. ⌜ r ≡ wiresOf self ⌝ }
     {
         2 * self.num_read as usize + self.num_eval as usize
     }
 
-    pub fn made(self) -> usize
+    pub(crate) fn made(self) -> usize
         ensures { λ r. ⌜ r ≡ madeOf self ⌝ }
     {
         2 * self.reads_done as usize + self.evals_done as usize
@@ -100,7 +102,7 @@ impl CircuitEvaluation {
     }
 
     // "Counts opening would accept, steps done not past their end, id_next as they say."
-    pub fn is_sound(self) -> bool
+    pub(crate) fn is_sound(self) -> bool
         ensures { λ r. ⌜ r ≡ sound self ⌝ }
     {
         let Tested::Passed = test_counts(self.num_read, self.num_eval) else {
@@ -119,7 +121,7 @@ impl CircuitEvaluation {
     }
 
     // "A step refuses in the order 13, 6, 7."
-    pub fn test_read(
+    pub(crate) fn test_read(
         self,
         ptr: u64,
         word: [[u64; 2]; 2],
@@ -145,7 +147,7 @@ impl CircuitEvaluation {
         Tested::Passed
     }
 
-    pub fn test_eval(
+    pub(crate) fn test_eval(
         self,
         ptr: u64,
         instruction: u64,

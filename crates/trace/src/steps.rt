@@ -8,7 +8,9 @@ ghost use Rattle.trace.specs.Read.{readMade};
 ghost use Rattle.trace.specs.Eval.{evalMade};
 ghost use Rattle.trace.specs.Inside.{Room, ReadReady, EvalReady, busOf};
 use crate::CircuitEvaluation;
+use crate::nodes::EVAL_CELLS;
 use crate::nodes::EvalNode;
+use crate::nodes::READ_CELLS;
 use crate::nodes::ReadNode;
 use crate::operation::apply;
 use crate::operation::eval_op;
@@ -16,7 +18,7 @@ use crate::wire_bus::WireBus;
 use instruction::Op;
 
 impl CircuitEvaluation {
-    pub fn wire_bus(self) -> WireBus
+    pub(crate) fn wire_bus(self) -> WireBus
         ensures { λ r. ⌜ r ≡ busOf self ⌝ }
     {
         WireBus {
@@ -26,7 +28,7 @@ impl CircuitEvaluation {
     }
 
     // The two wires of a word, and their node.
-    pub fn read(
+    pub(crate) fn read(
         self,
         ptr: u64,
         v_0: [u64; 2],
@@ -49,11 +51,11 @@ impl CircuitEvaluation {
             id_1: id - 1,
             v_1: v_1,
         };
-        node.put(nodes, 7 * self.reads_done as usize);
+        node.put(nodes, READ_CELLS * self.reads_done as usize);
     }
 
     // A gate's wire, from its operands' values, and its node.
-    pub fn gate(
+    pub(crate) fn gate(
         self,
         ptr: u64,
         id_l: u32,

@@ -28,7 +28,12 @@ pub enum Operand {
 
 impl WireBus {
     // "Making a wire writes its value and count 0."
-    pub fn insert(mut self, value: [u64; 2], values: &mut [u64], counts: &mut [u32]) -> WireBus
+    pub(crate) fn insert(
+        mut self,
+        value: [u64; 2],
+        values: &mut [u64],
+        counts: &mut [u32],
+    ) -> WireBus
         requires { ⌜ (2 * self .made + 2 ≤ length (now values)) × (self .made < length (now counts)) ⌝ }
         ensures { λ r. ⌜ r ≡ inserted self ⌝ }
         ensures { λ _. ⌜ now (values .exit) ≡ sets (now (values .entry)) (2 * self .made) (cells (pairOf value)) ⌝ }
@@ -44,7 +49,7 @@ impl WireBus {
 
     // Reads the value of the wire with the given id, and raises its count. `number` is the refusal
     // of a wire that is not made, and `gate` its place.
-    pub fn read_value(
+    pub(crate) fn read_value(
         self,
         id: usize,
         number: u32,

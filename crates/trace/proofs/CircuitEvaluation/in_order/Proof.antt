@@ -1,15 +1,14 @@
-use Rattle.trace.proofs.CircuitEvaluation.in_order.Statement.{statement}
+-- `trace::CircuitEvaluation::in_order` meets its contract.
+-- Assumes nothing.
+use borrow.Author.Tests.{eq-eqb, ne-eqb}
 use Rattle.trace.proofs.CircuitEvaluation.in_order.Tie as tie
-use Rattle.trace.proofs.CircuitEvaluation.in_order.Reads as reads
-use Rattle.trace.proofs.CircuitEvaluation.in_order.Lts as lts
+use Rattle.trace.proofs.CircuitEvaluation.in_order.Statement.{statement}
 
--- src/state.rt:97:13
 returns : tie.Need-returns
-returns c = ?
+returns c = rw (eq-eqb _ _ (c .if1 .taken))
 
--- src/state.rt:93:5
 returns-2 : tie.Need-returns-2
-returns-2 c = ?
+returns-2 c = rw (ne-eqb _ _ (c .before .if1 .left))
 
 pub in-order-spec : {M : Type 1} → statement M
 in-order-spec = tie.close (tie.spec returns returns-2)

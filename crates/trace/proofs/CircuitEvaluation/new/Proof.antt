@@ -1,49 +1,47 @@
+-- `trace::CircuitEvaluation::new` meets its contract.
+-- Assumes nothing.
+use mathlib.Core.Path.{sym, ap, _∙_}
+use native.Mathlib.Omega.{arith}
+use borrow.Author.Tests.{not-true, not-false}
 use borrow.Author.Needs.{needs}
-use Rattle.trace.proofs.CircuitEvaluation.new.Statement.{statement}
+use Rattle.trace.specs.Inside.{testedTold}
+use Rattle.trace.proofs.StepTests.{open-refused, open-short, open-opened}
+use Rattle.trace.proofs.Tests.{counts-of}
 use Rattle.trace.proofs.CircuitEvaluation.new.Tie as tie
-use Rattle.trace.proofs.CircuitEvaluation.new.Reads as reads
-use Rattle.trace.proofs.CircuitEvaluation.new.Lts as lts
-use Rattle.trace.proofs.state.has_room.Reads as has-room-reads
-use Rattle.trace.proofs.state.test_counts.Reads as test-counts-reads
+use Rattle.trace.proofs.CircuitEvaluation.new.Statement.{statement}
 
--- src/lib.rt:104:13
 test-counts-requires : tie.Need-test-counts-requires
 test-counts-requires c κs = search needs
 
--- src/lib.rt:105:32
 enum-known-tested : tie.Need-enum-known-tested
 enum-known-tested c = search needs
 
--- src/lib.rt:106:13
 returns : tie.Need-returns
-returns c = ?
+returns c = open-refused _ _ _ _ _ _ _ (ap testedTold (sym (c .before .tested .given .1)) ∙ c .before .before .before .test-counts .ensures)
 
 enum-told : tie.Need-enum-told
 enum-told c = search needs
 
--- src/lib.rt:108:13
 has-room-requires : tie.Need-has-room-requires
 has-room-requires c κs = search needs
 
--- src/lib.rt:109:13
 returns-2 : tie.Need-returns-2
-returns-2 c = ?
+returns-2 c = open-short _ _ _ _ _ (ap testedTold (sym (c .before .before .enum-told .given .1)) ∙ c .before .before .before .before .test-counts .ensures) (sym (c .before .has-room .ensures) ∙ not-true _ (c .if1 .taken))
 
--- src/lib.rt:118:22
 mul-t17 : tie.Need-mul-t17
 mul-t17 c = search needs
 
--- src/lib.rt:118:22
 add-t19 : tie.Need-add-t19
 add-t19 c = search needs
 
--- src/lib.rt:118:22
 sub-t20 : tie.Need-sub-t20
-sub-t20 c = ?
+sub-t20 c = let h = counts-of _ _ _ _ _ (sym (ap testedTold (sym (c .before .before .enum-told .given .1)) ∙ c .before .before .before .before .test-counts .ensures)) .0 in omega arith
 
--- src/lib.rt:93:5
 returns-3 : tie.Need-returns-3
-returns-3 c = ?
+returns-3 c =
+    open-opened _ _ _ _ _ (ap testedTold (sym (c .before .before .enum-told .given .1)) ∙ c .before .before .before .before .test-counts .ensures) _
+    (sym (c .before .has-room .ensures) ∙ not-false _ (c .if1 .left))
+    (let h = counts-of _ _ _ _ _ (sym (ap testedTold (sym (c .before .before .enum-told .given .1)) ∙ c .before .before .before .before .test-counts .ensures)) .0 in omega arith)
 
 pub new-spec : {M : Type 1} → statement M
 new-spec =

@@ -1,46 +1,47 @@
+-- `trace::CircuitEvaluation::test_eval` meets its contract.
+-- Assumes nothing.
+use mathlib.Core.List.{[]}
+use mathlib.Core.Path.{refl, sym, ap, _∙_}
+use Prim.Native.Nat.{suc}
+use borrow.Author.Tests.{not-true, not-false}
 use borrow.Author.Needs.{needs}
-use Rattle.trace.proofs.CircuitEvaluation.test_eval.Statement.{statement}
+use Rattle.field.proofs.Over.{over-here, over-later, over-none, refused-at, accepted-of}
+use Rattle.trace.proofs.StepTests.{eval-unsound, eval-early, eval-late, eval-short, eval-cells}
 use Rattle.trace.proofs.CircuitEvaluation.test_eval.Tie as tie
-use Rattle.trace.proofs.CircuitEvaluation.test_eval.Reads as reads
-use Rattle.trace.proofs.CircuitEvaluation.test_eval.Lts as lts
-use Rattle.trace.proofs.CircuitEvaluation.is_sound.Reads as is-sound-reads
-use Rattle.trace.proofs.state.has_room.Reads as has-room-reads
+use Rattle.trace.proofs.CircuitEvaluation.test_eval.Statement.{statement}
 
--- src/state.rt:158:13
 is-sound-requires : tie.Need-is-sound-requires
 is-sound-requires c κs = search needs
 
--- src/state.rt:159:13
 returns : tie.Need-returns
-returns c = ?
+returns c = eval-unsound _ _ _ _ (sym (c .before .is-sound .ensures) ∙ not-true _ (c .if1 .taken))
 
--- src/state.rt:162:13
 returns-2 : tie.Need-returns-2
-returns-2 c = ?
+returns-2 c = eval-early _ _ _ _ (search needs)
 
--- src/state.rt:165:13
 returns-3 : tie.Need-returns-3
-returns-3 c = ?
+returns-3 c = eval-late _ _ _ _ (search needs)
 
--- src/state.rt:167:13
 has-room-requires : tie.Need-has-room-requires
 has-room-requires c κs = search needs
 
--- src/state.rt:168:13
 returns-4 : tie.Need-returns-4
-returns-4 c = ?
+returns-4 c = eval-short _ _ _ _ (sym (c .before .before .before .before .before .before .before .is-sound .ensures) ∙ not-false _ (c .before .before .before .before .before .before .if1 .left)) (search needs) (search needs) (sym (c .before .has-room .ensures) ∙ not-true _ (c .if4 .taken))
 
--- src/state.rt:171:13
 returns-5 : tie.Need-returns-5
-returns-5 c = ?
+returns-5 c =
+    eval-cells _ _ _ _ (sym (c .before .before .before .before .before .before .before .before .is-sound .ensures) ∙ not-false _ (c .before .before .before .before .before .before .before .if1 .left)) (search needs) (search needs) _ (sym (c .before .before .has-room .ensures) ∙ not-false _ (c .before .if4 .left))
+    (refused-at _ _ 0 (sym (over-here _ _ (search needs))) (search needs))
 
--- src/state.rt:174:13
 returns-6 : tie.Need-returns-6
-returns-6 c = ?
+returns-6 c =
+    eval-cells _ _ _ _ (sym (c .before .before .before .before .before .before .before .before .before .is-sound .ensures) ∙ not-false _ (c .before .before .before .before .before .before .before .before .if1 .left)) (search needs) (search needs) _ (sym (c .before .before .before .has-room .ensures) ∙ not-false _ (c .before .before .if4 .left))
+    (refused-at _ _ 1 (sym (over-later _ _ (search needs) ∙ ap suc (over-here _ _ (search needs)))) (search needs))
 
--- src/state.rt:148:5
 returns-7 : tie.Need-returns-7
-returns-7 c = ?
+returns-7 c =
+    eval-cells _ _ _ _ (sym (c .before .before .before .before .before .before .before .before .before .is-sound .ensures) ∙ not-false _ (c .before .before .before .before .before .before .before .before .if1 .left)) (search needs) (search needs) _ (sym (c .before .before .before .has-room .ensures) ∙ not-false _ (c .before .before .if4 .left))
+    (accepted-of _ [] [] 2 (sym (over-later _ _ (search needs) ∙ ap suc (over-later _ _ (search needs) ∙ ap suc over-none))) (search needs) refl)
 
 pub test-eval-spec : {M : Type 1} → statement M
 test-eval-spec =

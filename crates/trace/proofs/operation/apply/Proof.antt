@@ -1,60 +1,61 @@
+-- `trace::operation::apply` meets its contract.
+-- Assumes nothing.
+use mathlib.Core.Path.{sym, ap, _∙_}
 use borrow.Author.Needs.{needs}
-use Rattle.trace.proofs.operation.apply.Statement.{statement}
+use Rattle.field.proofs.Answers.{quad-value}
+use Rattle.field.specs.Answer.{pairOf}
+use Rattle.field.specs.Pair.{cells, addPair, subPair, mulPair}
+use Rattle.instruction.specs.Decode.{opNumber}
+use Rattle.instruction.specs.declared.Op.{Op}
+use Rattle.trace.specs.Inside.{valueTold}
+use Rattle.trace.specs.Eval.{combine}
 use Rattle.trace.proofs.operation.apply.Tie as tie
-use Rattle.trace.proofs.operation.apply.Reads as reads
-use Rattle.trace.proofs.operation.apply.Lts as lts
-use Rattle.field.proofs.quad.add.Reads as add-reads
-use Rattle.field.proofs.quad.mul.Reads as mul-reads
-use Rattle.field.proofs.quad.sub.Reads as sub-reads
-use Rattle.trace.proofs.operation.value.Reads as value-reads
+use Rattle.trace.proofs.operation.apply.Statement.{statement}
 
--- src/operation.rt:21:26
 enum-told : tie.Need-enum-told
 enum-told c = search needs
 
--- src/operation.rt:21:26
 sub-requires : tie.Need-sub-requires
 sub-requires c κs = search needs
 
--- src/operation.rt:21:20
 value-requires : tie.Need-value-requires
 value-requires c κs = search needs
 
--- src/operation.rt:22:26
 enum-told-2 : tie.Need-enum-told-2
 enum-told-2 c = search needs
 
--- src/operation.rt:22:26
 mul-requires : tie.Need-mul-requires
 mul-requires c κs = search needs
 
--- src/operation.rt:22:20
 value-requires-2 : tie.Need-value-requires-2
 value-requires-2 c κs = search needs
 
--- src/operation.rt:23:26
 enum-told-3 : tie.Need-enum-told-3
 enum-told-3 c = search needs
 
--- src/operation.rt:23:26
 add-requires : tie.Need-add-requires
 add-requires c κs = search needs
 
--- src/operation.rt:23:20
 value-requires-3 : tie.Need-value-requires-3
 value-requires-3 c κs = search needs
 
--- src/operation.rt:16:1
 returns : tie.Need-returns
-returns c = ?
+returns c =
+    c .value .ensures
+    ∙ ap valueTold (c .before .sub .ensures ∙ quad-value subPair (c .before .before .before .before .args .v-l) (c .before .before .before .before .args .v-r) (c .before .before .before .before .pre .0) (c .before .before .before .before .pre .1))
+    ∙ ap (λ (o : Op). cells (combine (opNumber o) (pairOf (c .before .before .before .before .args .v-l)) (pairOf (c .before .before .before .before .args .v-r)))) (sym (c .before .before .enum-told .given .1))
 
--- src/operation.rt:16:1
 returns-2 : tie.Need-returns-2
-returns-2 c = ?
+returns-2 c =
+    c .value2 .ensures
+    ∙ ap valueTold (c .before .mul .ensures ∙ quad-value mulPair (c .before .before .before .before .args .v-l) (c .before .before .before .before .args .v-r) (c .before .before .before .before .pre .0) (c .before .before .before .before .pre .1))
+    ∙ ap (λ (o : Op). cells (combine (opNumber o) (pairOf (c .before .before .before .before .args .v-l)) (pairOf (c .before .before .before .before .args .v-r)))) (sym (c .before .before .enum-told2 .given .1))
 
--- src/operation.rt:16:1
 returns-3 : tie.Need-returns-3
-returns-3 c = ?
+returns-3 c =
+    c .value3 .ensures
+    ∙ ap valueTold (c .before .add .ensures ∙ quad-value addPair (c .before .before .before .before .args .v-l) (c .before .before .before .before .args .v-r) (c .before .before .before .before .pre .0) (c .before .before .before .before .pre .1))
+    ∙ ap (λ (o : Op). cells (combine (opNumber o) (pairOf (c .before .before .before .before .args .v-l)) (pairOf (c .before .before .before .before .args .v-r)))) (sym (c .before .before .enum-told3 .given .1))
 
 pub apply-spec : {M : Type 1} → statement M
 apply-spec =

@@ -1,168 +1,144 @@
+-- `trace::nodes::EvalNode::put` meets its contract.
+-- Assumes nothing.
+use mathlib.Core.Path.{_≡_}
+use Prim.Native.Nat.{suc, _+_}
+use native.Mathlib.Omega.{arith}
+use native.Mathlib.Numerals.{add-one}
+use lib.ListN.{length-set}
 use borrow.Author.Needs.{needs}
-use Rattle.trace.proofs.nodes.EvalNode.put.Statement.{statement}
 use Rattle.trace.proofs.nodes.EvalNode.put.Tie as tie
-use Rattle.trace.proofs.nodes.EvalNode.put.Reads as reads
-use Rattle.trace.proofs.nodes.EvalNode.put.Lts as lts
+use Rattle.trace.proofs.nodes.EvalNode.put.Statement.{statement}
 
--- src/nodes.rt:48:9
 mul-nodes : tie.Need-mul-nodes
 mul-nodes c = search needs
 
--- src/nodes.rt:48:9
 slice-write-nodes : tie.Need-slice-write-nodes
 slice-write-nodes c = search needs
 
--- src/nodes.rt:49:15
 add-nodes : tie.Need-add-nodes
 add-nodes c = search needs
 
--- src/nodes.rt:49:9
 mul-nodes-2 : tie.Need-mul-nodes-2
 mul-nodes-2 c = search needs
 
--- src/nodes.rt:49:9
 slice-write-nodes-2 : tie.Need-slice-write-nodes-2
-slice-write-nodes-2 c = ?
+slice-write-nodes-2 c = simp length-set (omega arith)
 
--- src/nodes.rt:50:15
 add-nodes-2 : tie.Need-add-nodes-2
 add-nodes-2 c = search needs
 
--- src/nodes.rt:50:9
 mul-nodes-3 : tie.Need-mul-nodes-3
 mul-nodes-3 c = search needs
 
--- src/nodes.rt:50:9
 slice-write-nodes-3 : tie.Need-slice-write-nodes-3
-slice-write-nodes-3 c = ?
+slice-write-nodes-3 c = simp length-set (omega arith)
 
--- src/nodes.rt:51:25
 element-copy-out-nodes : tie.Need-element-copy-out-nodes
 element-copy-out-nodes c = search needs
 
--- src/nodes.rt:51:15
 add-nodes-3 : tie.Need-add-nodes-3
 add-nodes-3 c = search needs
 
--- src/nodes.rt:51:9
 mul-nodes-4 : tie.Need-mul-nodes-4
 mul-nodes-4 c = search needs
 
--- src/nodes.rt:51:9
 slice-write-nodes-4 : tie.Need-slice-write-nodes-4
-slice-write-nodes-4 c = ?
+slice-write-nodes-4 c = simp length-set (omega arith)
 
--- src/nodes.rt:52:25
 element-copy-out-nodes-2 : tie.Need-element-copy-out-nodes-2
 element-copy-out-nodes-2 c = search needs
 
--- src/nodes.rt:52:15
 add-nodes-4 : tie.Need-add-nodes-4
 add-nodes-4 c = search needs
 
--- src/nodes.rt:52:9
 mul-nodes-5 : tie.Need-mul-nodes-5
 mul-nodes-5 c = search needs
 
--- src/nodes.rt:52:9
 slice-write-nodes-5 : tie.Need-slice-write-nodes-5
-slice-write-nodes-5 c = ?
+slice-write-nodes-5 c = simp length-set (omega arith)
 
--- src/nodes.rt:53:15
 add-nodes-5 : tie.Need-add-nodes-5
 add-nodes-5 c = search needs
 
--- src/nodes.rt:53:9
 mul-nodes-6 : tie.Need-mul-nodes-6
 mul-nodes-6 c = search needs
 
--- src/nodes.rt:53:9
 slice-write-nodes-6 : tie.Need-slice-write-nodes-6
-slice-write-nodes-6 c = ?
+slice-write-nodes-6 c = simp length-set (omega arith)
 
--- src/nodes.rt:54:25
 element-copy-out-nodes-3 : tie.Need-element-copy-out-nodes-3
 element-copy-out-nodes-3 c = search needs
 
--- src/nodes.rt:54:15
 add-nodes-6 : tie.Need-add-nodes-6
 add-nodes-6 c = search needs
 
--- src/nodes.rt:54:9
 mul-nodes-7 : tie.Need-mul-nodes-7
 mul-nodes-7 c = search needs
 
--- src/nodes.rt:54:9
 slice-write-nodes-7 : tie.Need-slice-write-nodes-7
-slice-write-nodes-7 c = ?
+slice-write-nodes-7 c = simp length-set (omega arith)
 
--- src/nodes.rt:55:25
 element-copy-out-nodes-4 : tie.Need-element-copy-out-nodes-4
 element-copy-out-nodes-4 c = search needs
 
--- src/nodes.rt:55:15
 add-nodes-7 : tie.Need-add-nodes-7
 add-nodes-7 c = search needs
 
--- src/nodes.rt:55:9
 mul-nodes-8 : tie.Need-mul-nodes-8
 mul-nodes-8 c = search needs
 
--- src/nodes.rt:55:9
 slice-write-nodes-8 : tie.Need-slice-write-nodes-8
-slice-write-nodes-8 c = ?
+slice-write-nodes-8 c = simp length-set (omega arith)
 
--- src/nodes.rt:56:15
 add-nodes-8 : tie.Need-add-nodes-8
 add-nodes-8 c = search needs
 
--- src/nodes.rt:56:9
 mul-nodes-9 : tie.Need-mul-nodes-9
 mul-nodes-9 c = search needs
 
--- src/nodes.rt:56:9
 slice-write-nodes-9 : tie.Need-slice-write-nodes-9
-slice-write-nodes-9 c = ?
+slice-write-nodes-9 c = simp length-set (omega arith)
 
--- src/nodes.rt:57:25
 element-copy-out-nodes-5 : tie.Need-element-copy-out-nodes-5
 element-copy-out-nodes-5 c = search needs
 
--- src/nodes.rt:57:15
 add-nodes-9 : tie.Need-add-nodes-9
 add-nodes-9 c = search needs
 
--- src/nodes.rt:57:9
 mul-nodes-10 : tie.Need-mul-nodes-10
 mul-nodes-10 c = search needs
 
--- src/nodes.rt:57:9
 slice-write-nodes-10 : tie.Need-slice-write-nodes-10
-slice-write-nodes-10 c = ?
+slice-write-nodes-10 c = simp length-set (omega arith)
 
--- src/nodes.rt:58:26
 element-copy-out-nodes-6 : tie.Need-element-copy-out-nodes-6
 element-copy-out-nodes-6 c = search needs
 
--- src/nodes.rt:58:15
 add-nodes-10 : tie.Need-add-nodes-10
 add-nodes-10 c = search needs
 
--- src/nodes.rt:58:9
 mul-nodes-11 : tie.Need-mul-nodes-11
 mul-nodes-11 c = search needs
 
--- src/nodes.rt:58:9
 slice-write-nodes-11 : tie.Need-slice-write-nodes-11
-slice-write-nodes-11 c = ?
+slice-write-nodes-11 c = simp length-set (omega arith)
 
--- src/nodes.rt:44:5
 same-length : tie.Need-same-length
-same-length c = ?
+same-length c = simp length-set
 
--- src/nodes.rt:44:5
 returns : tie.Need-returns
-returns c = ?
+returns c =
+    let k = c .before .before .before .before .before .before .args .at in
+    let e2 : k + 2 ≡ suc (suc (k)) = omega arith in
+    let e3 : k + 3 ≡ suc (suc (suc (k))) = omega arith in
+    let e4 : k + 4 ≡ suc (suc (suc (suc (k)))) = omega arith in
+    let e5 : k + 5 ≡ suc (suc (suc (suc (suc (k))))) = omega arith in
+    let e6 : k + 6 ≡ suc (suc (suc (suc (suc (suc (k)))))) = omega arith in
+    let e7 : k + 7 ≡ suc (suc (suc (suc (suc (suc (suc (k))))))) = omega arith in
+    let e8 : k + 8 ≡ suc (suc (suc (suc (suc (suc (suc (suc (k)))))))) = omega arith in
+    let e9 : k + 9 ≡ suc (suc (suc (suc (suc (suc (suc (suc (suc (k))))))))) = omega arith in
+    let e10 : k + 10 ≡ suc (suc (suc (suc (suc (suc (suc (suc (suc (suc (k)))))))))) = omega arith in
+    simp (add-one, e2, e3, e4, e5, e6, e7, e8, e9, e10)
 
 pub put-spec : {M : Type 1} → statement M
 put-spec =

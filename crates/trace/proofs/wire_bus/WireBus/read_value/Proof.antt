@@ -1,104 +1,82 @@
+-- `trace::wire_bus::WireBus::read_value` meets its contract.
+-- Assumes nothing.
+use mathlib.Core.Path.{refl}
 use borrow.Author.Needs.{needs}
-use Rattle.trace.proofs.wire_bus.WireBus.read_value.Statement.{statement}
+use Rattle.trace.proofs.StepTests.{no-wire, not-made, as-stored, first-over-p, second-over-p, count-full, stored-value}
 use Rattle.trace.proofs.wire_bus.WireBus.read_value.Tie as tie
-use Rattle.trace.proofs.wire_bus.WireBus.read_value.Reads as reads
-use Rattle.trace.proofs.wire_bus.WireBus.read_value.Lts as lts
+use Rattle.trace.proofs.wire_bus.WireBus.read_value.Statement.{statement}
 
--- src/wire_bus.rt:59:13
 returns : tie.Need-returns
-returns c = ?
+returns c = (no-wire _ _ _ _ _ _ _ (search needs), refl)
 
--- src/wire_bus.rt:61:18
 sub-at : tie.Need-sub-at
 sub-at c = search needs
 
--- src/wire_bus.rt:61:18
 sub-at-2 : tie.Need-sub-at-2
 sub-at-2 c = search needs
 
--- src/wire_bus.rt:63:13
 returns-2 : tie.Need-returns-2
-returns-2 c = ?
+returns-2 c = (not-made _ _ _ _ _ _ _ (search needs), refl)
 
--- src/wire_bus.rt:65:26
 mul-v-0 : tie.Need-mul-v-0
 mul-v-0 c = search needs
 
--- src/wire_bus.rt:65:19
 mul-v-0-2 : tie.Need-mul-v-0-2
 mul-v-0-2 c = search needs
 
--- src/wire_bus.rt:65:19
 shared-slice-read-v-0 : tie.Need-shared-slice-read-v-0
 shared-slice-read-v-0 c = search needs
 
--- src/wire_bus.rt:67:50
 mul-t17 : tie.Need-mul-t17
 mul-t17 c = search needs
 
--- src/wire_bus.rt:67:13
 returns-3 : tie.Need-returns-3
-returns-3 c = ?
+returns-3 c = (as-stored _ _ _ _ _ _ _ _ (search needs) (search needs) (first-over-p _ _ _ (search needs)), refl)
 
--- src/wire_bus.rt:69:26
 mul-v-1 : tie.Need-mul-v-1
 mul-v-1 c = search needs
 
--- src/wire_bus.rt:69:26
 add-v-1 : tie.Need-add-v-1
 add-v-1 c = search needs
 
--- src/wire_bus.rt:69:19
 mul-v-1-2 : tie.Need-mul-v-1-2
 mul-v-1-2 c = search needs
 
--- src/wire_bus.rt:69:19
 shared-slice-read-v-1 : tie.Need-shared-slice-read-v-1
 shared-slice-read-v-1 c = search needs
 
--- src/wire_bus.rt:71:50
 mul-t21 : tie.Need-mul-t21
 mul-t21 c = search needs
 
--- src/wire_bus.rt:71:50
 add-t22 : tie.Need-add-t22
 add-t22 c = search needs
 
--- src/wire_bus.rt:71:13
 returns-4 : tie.Need-returns-4
-returns-4 c = ?
+returns-4 c = (as-stored _ _ _ _ _ _ _ _ (search needs) (search needs) (second-over-p _ _ _ (search needs) (search needs)), refl)
 
--- src/wire_bus.rt:73:21
 mul-count : tie.Need-mul-count
 mul-count c = search needs
 
--- src/wire_bus.rt:73:21
 slice-read-count : tie.Need-slice-read-count
 slice-read-count c = search needs
 
--- src/wire_bus.rt:75:13
 returns-5 : tie.Need-returns-5
-returns-5 c = ?
+returns-5 c = (as-stored _ _ _ _ _ _ _ _ (search needs) (search needs) (count-full _ _ _ (search needs) (search needs) (search needs)), refl)
 
--- src/wire_bus.rt:77:22
 add-counts : tie.Need-add-counts
 add-counts c = search needs
 
--- src/wire_bus.rt:77:9
 mul-counts : tie.Need-mul-counts
 mul-counts c = search needs
 
--- src/wire_bus.rt:77:9
 slice-write-counts : tie.Need-slice-write-counts
 slice-write-counts c = search needs
 
--- src/wire_bus.rt:46:5
 same-length : tie.Need-same-length
 same-length c = search needs
 
--- src/wire_bus.rt:46:5
 returns-6 : tie.Need-returns-6
-returns-6 c = ?
+returns-6 c = (as-stored _ _ _ _ _ _ _ _ (search needs) (search needs) (stored-value _ _ _ (search needs) (search needs) (search needs)), refl)
 
 pub read-value-spec : {M : Type 1} → statement M
 read-value-spec =
