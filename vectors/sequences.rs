@@ -207,11 +207,11 @@ impl Case {
 impl fmt::Display for Question {
     fn fmt(&self, f: &mut fmt::Formatter<'_>) -> fmt::Result {
         let (letter, numbers) = match *self {
-            Question::Begin(lent) => ('b', lent.map(|n| n as u64).to_vec()),
-            Question::Set(state) => ('s', state_numbers(&state)),
-            Question::Value(i, cell) => ('v', vec![i as u64, cell]),
-            Question::Count(i, count) => ('c', vec![i as u64, count.into()]),
-            Question::Node(i, cell) => ('n', vec![i as u64, cell]),
+            Question::Begin(lent) => ('B', lent.map(|n| n as u64).to_vec()),
+            Question::Set(state) => ('S', state_numbers(&state)),
+            Question::Value(i, cell) => ('V', vec![i as u64, cell]),
+            Question::Count(i, count) => ('C', vec![i as u64, count.into()]),
+            Question::Node(i, cell) => ('N', vec![i as u64, cell]),
             Question::Open(opened) => ('o', opened.map(u64::from).to_vec()),
             Question::Read(ptr, [a, b, c, d]) => ('r', vec![ptr, a, b, c, d]),
             Question::Eval(ptr, word) => ('e', vec![ptr, word]),

@@ -7,7 +7,7 @@ use crate::state_cases::with_number;
 use crate::steps::State;
 use crate::{Case, Question};
 
-const SEQUENCES: usize = 240;
+const SEQUENCES: usize = 280;
 const SEED: u64 = 3;
 
 const CORNERS: [u64; 6] = [0, 1, 7, P - 1, P - 7, 1 << 32];

@@ -1,115 +1,70 @@
-// The questions, each put to a case.
+// The questions, each put to a case; the case after it is given back, and a call's answer is said.
 use crate::cells;
 use crate::cells::Case;
-use crate::cells::State;
 use crate::question::NUMBERS;
-use crate::question::Question;
+use crate::say;
 use trace::CircuitEvaluation;
 use trace::OpenAnswer;
 use trace::OutputAnswer;
-use trace::RecordHeader;
 use trace::StepAnswer;
 
-// A case that was set, of which nothing is said; or what a call answered: the state that it gave, the
-// state that it gave back with a refusal's number and place, a header, or the number and place alone;
-// or that the line is no question.
-pub enum Reply {
-    Set(Case),
-    Accepted(CircuitEvaluation),
-    Stopped(CircuitEvaluation, u32, u64),
-    Header(RecordHeader),
-    Refused(u32, u64),
-    Bad,
+fn accepted(state: CircuitEvaluation) -> CircuitEvaluation {
+    say::bytes(b"accept");
+    say::state(state);
+    state
 }
 
-// The case after the reply: a call that was refused with no state leaves it.
-pub fn case_after(case: Case, reply: Reply) -> Case {
-    match reply {
-        Reply::Set(next) => next,
-        Reply::Accepted(state) => cells::with_state(case, state),
-        Reply::Stopped(state, _, _) => cells::with_state(case, state),
-        Reply::Header(_) => case,
-        Reply::Refused(_, _) => case,
-        Reply::Bad => case,
-    }
-}
-
-pub fn is_call(reply: Reply) -> bool {
-    match reply {
-        Reply::Set(_) => false,
-        _ => true,
-    }
-}
-
-fn open_reply(answer: OpenAnswer) -> Reply {
-    match answer {
-        OpenAnswer::Opened(state) => Reply::Accepted(state),
-        OpenAnswer::Refused(number, place) => Reply::Refused(number, place),
-    }
-}
-
-fn step_reply(answer: StepAnswer) -> Reply {
-    match answer {
-        StepAnswer::Done(state) => Reply::Accepted(state),
-        StepAnswer::Refused(state, number, place) => Reply::Stopped(state, number, place),
-    }
-}
-
-fn output_reply(answer: OutputAnswer) -> Reply {
-    match answer {
-        OutputAnswer::Zero(header) => Reply::Header(header),
-        OutputAnswer::Refused(number, place) => Reply::Refused(number, place),
-    }
-}
-
-fn open(numbers: [u64; NUMBERS], values: &[u64], counts: &[u32], nodes: &[u64]) -> Reply {
-    let asked = cells::state_of(numbers);
-    let State::Of(state) = asked else {
-        return Reply::Bad;
-    };
-    open_reply(CircuitEvaluation::new(
-        state.ctx,
-        state.clk,
-        state.num_read,
-        state.num_eval,
+// A refused opening gives no state, and the one before stays.
+fn open(
+    state: CircuitEvaluation,
+    numbers: [u64; NUMBERS],
+    values: &[u64],
+    counts: &[u32],
+    nodes: &[u64],
+) -> CircuitEvaluation {
+    let s = cells::state_of(numbers);
+    let opened = CircuitEvaluation::new(
+        s.ctx,
+        s.clk,
+        s.num_read,
+        s.num_eval,
         values,
         counts,
         nodes,
-    ))
+    );
+    match opened {
+        OpenAnswer::Opened(new) => accepted(new),
+        OpenAnswer::Refused(number, place) => {
+            say::refusal(number, place);
+            state
+        }
+    }
 }
 
-fn read(
-    state: CircuitEvaluation,
-    numbers: [u64; NUMBERS],
-    values: &mut [u64],
-    counts: &mut [u32],
-    nodes: &mut [u64],
-) -> Reply {
-    let ptr = numbers[0];
-    let word = [[numbers[1], numbers[2]], [numbers[3], numbers[4]]];
-    step_reply(state.do_read(ptr, word, values, counts, nodes))
+fn stepped(answer: StepAnswer) -> CircuitEvaluation {
+    match answer {
+        StepAnswer::Done(state) => accepted(state),
+        StepAnswer::Refused(state, number, place) => {
+            say::refusal(number, place);
+            say::state(state);
+            state
+        }
+    }
 }
 
-fn eval(
-    state: CircuitEvaluation,
-    numbers: [u64; NUMBERS],
-    values: &mut [u64],
-    counts: &mut [u32],
-    nodes: &mut [u64],
-) -> Reply {
-    step_reply(state.do_eval(numbers[0], numbers[1], values, counts, nodes))
+fn told(answer: OutputAnswer) {
+    match answer {
+        OutputAnswer::Zero(header) => {
+            say::bytes(b"accept");
+            say::header(header);
+        }
+        OutputAnswer::Refused(number, place) => say::refusal(number, place),
+    }
 }
 
-fn output(state: CircuitEvaluation, values: &[u64], counts: &[u32], nodes: &[u64]) -> Reply {
-    output_reply(state.output_value(values, counts, nodes))
-}
-
-fn set_state(case: Case, numbers: [u64; NUMBERS]) -> Reply {
-    let asked = cells::state_of(numbers);
-    let State::Of(state) = asked else {
-        return Reply::Bad;
-    };
-    Reply::Set(cells::with_state(case, state))
+fn bad(state: CircuitEvaluation) -> CircuitEvaluation {
+    say::bytes(b"bad");
+    state
 }
 
 // The four calls, over the lent parts.
@@ -120,13 +75,19 @@ fn call(
     values: &mut [u64],
     counts: &mut [u32],
     nodes: &mut [u64],
-) -> Reply {
+) -> CircuitEvaluation {
     match letter {
-        b'o' => open(numbers, values, counts, nodes),
-        b'r' => read(state, numbers, values, counts, nodes),
-        b'e' => eval(state, numbers, values, counts, nodes),
-        b'q' => output(state, values, counts, nodes),
-        _ => Reply::Bad,
+        b'o' => open(state, numbers, values, counts, nodes),
+        b'r' => {
+            let word = [[numbers[1], numbers[2]], [numbers[3], numbers[4]]];
+            stepped(state.do_read(numbers[0], word, values, counts, nodes))
+        }
+        b'e' => stepped(state.do_eval(numbers[0], numbers[1], values, counts, nodes)),
+        b'q' => {
+            told(state.output_value(values, counts, nodes));
+            state
+        }
+        _ => bad(state),
     }
 }
 
@@ -137,19 +98,19 @@ fn call_on(
     values: &mut [u64],
     counts: &mut [u32],
     nodes: &mut [u64],
-) -> Reply {
+) -> CircuitEvaluation {
     let state = case.state;
     let value_cells = case.values;
     let count_cells = case.counts;
     let node_cells = case.nodes;
     if values.len() < value_cells {
-        return Reply::Bad;
+        return bad(state);
     }
     if counts.len() < count_cells {
-        return Reply::Bad;
+        return bad(state);
     }
     if nodes.len() < node_cells {
-        return Reply::Bad;
+        return bad(state);
     }
     call(
         letter,
@@ -161,48 +122,41 @@ fn call_on(
     )
 }
 
-fn is_set(done: bool, case: Case) -> Reply {
-    if done {
-        return Reply::Set(case);
-    }
-    Reply::Bad
+fn begin(
+    numbers: [u64; NUMBERS],
+    values: &mut [u64],
+    counts: &mut [u32],
+    nodes: &mut [u64],
+) -> Case {
+    cells::fill(values, cells::VALUE_CANARY);
+    cells::fill_counts(counts, cells::COUNT_CANARY);
+    cells::fill(nodes, cells::NODE_CANARY);
+    cells::new_case(numbers[0], numbers[1], numbers[2])
 }
 
-// How many numbers a question has, by its letter.
-fn numbers_of(letter: u8) -> usize {
-    match letter {
-        b'b' => 3,
-        b'o' => 4,
-        b's' => 7,
-        b'v' | b'c' | b'n' | b'e' => 2,
-        b'r' => 5,
-        _ => 0,
-    }
-}
-
-pub fn reply_to(
-    asked: Question,
+pub fn answer(
+    letter: u8,
     numbers: [u64; NUMBERS],
     case: Case,
     values: &mut [u64],
     counts: &mut [u32],
     nodes: &mut [u64],
-) -> Reply {
-    let letter = asked.letter;
-    if asked.count != numbers_of(letter) {
-        return Reply::Bad;
-    }
+) -> Case {
     match letter {
-        b'b' => {
-            cells::fill(values, cells::VALUE_CANARY);
-            cells::fill_counts(counts, cells::COUNT_CANARY);
-            cells::fill(nodes, cells::NODE_CANARY);
-            Reply::Set(cells::new_case(numbers[0], numbers[1], numbers[2]))
+        b'B' => begin(numbers, values, counts, nodes),
+        b'S' => cells::with_state(case, cells::state_of(numbers)),
+        b'V' => {
+            cells::set(values, numbers[0], numbers[1]);
+            case
         }
-        b's' => set_state(case, numbers),
-        b'v' => is_set(cells::set(values, numbers[0], numbers[1]), case),
-        b'c' => is_set(cells::set_count(counts, numbers[0], numbers[1]), case),
-        b'n' => is_set(cells::set(nodes, numbers[0], numbers[1]), case),
-        _ => call_on(letter, numbers, case, values, counts, nodes),
+        b'C' => {
+            cells::set_count(counts, numbers[0], numbers[1]);
+            case
+        }
+        b'N' => {
+            cells::set(nodes, numbers[0], numbers[1]);
+            case
+        }
+        _ => cells::with_state(case, call_on(letter, numbers, case, values, counts, nodes)),
     }
 }

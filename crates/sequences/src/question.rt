@@ -6,15 +6,14 @@ ghost use lib.ListN.{length};
 // As many as the longest question has.
 pub const NUMBERS: usize = 7;
 
-// The letter of what is no question; nothing after it is read.
-const NO_LETTER: u8 = 0;
+// The letter of what is no question. It is answered, and nothing after it is read.
+const NO_LETTER: u8 = b'z';
 
 const MAX: u64 = 18446744073709551615;
 
-// The letter, how many numbers follow it, and where the next question starts.
+// The letter, and where the next question starts.
 pub struct Question {
     pub letter: u8,
-    pub count: usize,
     pub next: usize,
 }
 
@@ -37,12 +36,24 @@ fn with_digit(value: u64, c: u8) -> Value {
     Value::Of(value * 10 + digit)
 }
 
+// How many numbers a question has, by its letter.
+fn numbers_of(letter: u8) -> usize {
+    match letter {
+        b'B' => 3,
+        b'S' => 7,
+        b'V' | b'C' | b'N' | b'e' => 2,
+        b'o' => 4,
+        b'r' => 5,
+        b'q' => 0,
+        _ => NUMBERS + 1,
+    }
+}
+
 fn no_question(next: usize) -> Question
     ensures { λ r. ⌜ r .next ≡ next ⌝ }
 {
     Question {
         letter: NO_LETTER,
-        count: 0,
         next: next,
     }
 }
@@ -59,9 +70,11 @@ pub fn read(s: &[u8], from: usize, numbers: &mut [u64; NUMBERS]) -> Question
         let c = s[at];
         at += 1;
         if c == b'\n' {
+            if count != numbers_of(letter) {
+                return no_question(s.len());
+            }
             return Question {
                 letter: letter,
-                count: count,
                 next: at,
             };
         }

@@ -26,14 +26,23 @@ shared-slice-read-c c = search needs
 add-at-2 : tie.Need-add-at-2 Inv-loop μ-loop
 add-at-2 c = search needs
 
-returns : tie.Need-returns Inv-loop μ-loop
-returns c = search needs
+numbers-of-requires : tie.Need-numbers-of-requires Inv-loop μ-loop
+numbers-of-requires c κs = search needs
 
 no-question-requires : tie.Need-no-question-requires Inv-loop μ-loop
 no-question-requires c κs = search needs
 
+returns : tie.Need-returns Inv-loop μ-loop
+returns c = search needs
+
 returns-2 : tie.Need-returns-2 Inv-loop μ-loop
 returns-2 c = search needs
+
+no-question-requires-2 : tie.Need-no-question-requires-2 Inv-loop μ-loop
+no-question-requires-2 c κs = search needs
+
+returns-3 : tie.Need-returns-3 Inv-loop μ-loop
+returns-3 c = search needs
 
 add-count : tie.Need-add-count Inv-loop μ-loop
 add-count c = search needs
@@ -44,11 +53,11 @@ loop-less c = search needs
 loop-again : tie.Need-loop-again Inv-loop μ-loop
 loop-again c = search needs
 
-no-question-requires-2 : tie.Need-no-question-requires-2 Inv-loop μ-loop
-no-question-requires-2 c κs = search needs
+no-question-requires-3 : tie.Need-no-question-requires-3 Inv-loop μ-loop
+no-question-requires-3 c κs = search needs
 
-returns-3 : tie.Need-returns-3 Inv-loop μ-loop
-returns-3 c = search needs
+returns-4 : tie.Need-returns-4 Inv-loop μ-loop
+returns-4 c = search needs
 
 sub-last : tie.Need-sub-last Inv-loop μ-loop
 sub-last c = search needs
@@ -68,11 +77,11 @@ enum-known-value c = search needs
 enum-told : tie.Need-enum-told Inv-loop μ-loop
 enum-told c = search needs
 
-no-question-requires-3 : tie.Need-no-question-requires-3 Inv-loop μ-loop
-no-question-requires-3 c κs = search needs
+no-question-requires-4 : tie.Need-no-question-requires-4 Inv-loop μ-loop
+no-question-requires-4 c κs = search needs
 
-returns-4 : tie.Need-returns-4 Inv-loop μ-loop
-returns-4 c = search needs
+returns-5 : tie.Need-returns-5 Inv-loop μ-loop
+returns-5 c = search needs
 
 mul-numbers : tie.Need-mul-numbers Inv-loop μ-loop
 mul-numbers c = search needs
@@ -86,11 +95,11 @@ loop-less-2 c = search needs
 loop-again-2 : tie.Need-loop-again-2 Inv-loop μ-loop
 loop-again-2 c = search needs
 
-no-question-requires-4 : tie.Need-no-question-requires-4 Inv-loop μ-loop
-no-question-requires-4 c κs = search needs
+no-question-requires-5 : tie.Need-no-question-requires-5 Inv-loop μ-loop
+no-question-requires-5 c κs = search needs
 
-returns-5 : tie.Need-returns-5 Inv-loop μ-loop
-returns-5 c = search needs
+returns-6 : tie.Need-returns-6 Inv-loop μ-loop
+returns-6 c = search needs
 
 pub read-spec : {M : Type 1} → statement M
 read-spec =
@@ -103,25 +112,28 @@ read-spec =
     loop-holds
     shared-slice-read-c
     add-at-2
-    returns
+    numbers-of-requires
     no-question-requires
+    returns
     returns-2
+    no-question-requires-2
+    returns-3
     add-count
     loop-less
     loop-again
-    no-question-requires-2
-    returns-3
+    no-question-requires-3
+    returns-4
     sub-last
     mul-with-digit
     element-copy-out-with-digit
     with-digit-requires
     enum-known-value
     enum-told
-    no-question-requires-3
-    returns-4
+    no-question-requires-4
+    returns-5
     mul-numbers
     element-write-numbers
     loop-less-2
     loop-again-2
-    no-question-requires-4
-    returns-5)
+    no-question-requires-5
+    returns-6)

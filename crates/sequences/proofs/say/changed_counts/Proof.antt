@@ -1,9 +1,9 @@
--- `sequences::say_changed_counts` is safe and ends: the place rises up to the length. Assumes nothing.
+-- `sequences::say::changed_counts` is safe and ends: the place rises up to the length. Assumes nothing.
 use Prim.Native.Nat.{_-_}
 use lib.ListN.{length}
 use borrow.Author.Needs.{needs}
-use Rattle.sequences.proofs.say_changed_counts.Statement.{statement}
-use Rattle.sequences.proofs.say_changed_counts.Tie as tie
+use Rattle.sequences.proofs.say.changed_counts.Statement.{statement}
+use Rattle.sequences.proofs.say.changed_counts.Tie as tie
 
 abbrev Inv-loop : tie.InvT-loop
 Inv-loop old new i₀ i = Unit {0}
@@ -29,14 +29,14 @@ mul-if2-2 c = search needs
 shared-slice-read-if2-2 : tie.Need-shared-slice-read-if2-2 Inv-loop μ-loop
 shared-slice-read-if2-2 c = search needs
 
-mul-say-count : tie.Need-mul-say-count Inv-loop μ-loop
-mul-say-count c = search needs
+mul-count : tie.Need-mul-count Inv-loop μ-loop
+mul-count c = search needs
 
-shared-slice-read-say-count : tie.Need-shared-slice-read-say-count Inv-loop μ-loop
-shared-slice-read-say-count c = search needs
+shared-slice-read-count : tie.Need-shared-slice-read-count Inv-loop μ-loop
+shared-slice-read-count c = search needs
 
-say-count-requires : tie.Need-say-count-requires Inv-loop μ-loop
-say-count-requires c κs = search needs
+count-requires : tie.Need-count-requires Inv-loop μ-loop
+count-requires c κs = search needs
 
 add-i : tie.Need-add-i Inv-loop μ-loop
 add-i c = search needs
@@ -50,8 +50,8 @@ loop-again c = search needs
 returns-2 : tie.Need-returns-2 Inv-loop μ-loop
 returns-2 c = search needs
 
-pub say-changed-counts-spec : {M : Type 1} → statement M
-say-changed-counts-spec =
+pub changed-counts-spec : {M : Type 1} → statement M
+changed-counts-spec =
     tie.close
     (tie.spec
     Inv-loop
@@ -62,9 +62,9 @@ say-changed-counts-spec =
     shared-slice-read-if2
     mul-if2-2
     shared-slice-read-if2-2
-    mul-say-count
-    shared-slice-read-say-count
-    say-count-requires
+    mul-count
+    shared-slice-read-count
+    count-requires
     add-i
     loop-less
     loop-again

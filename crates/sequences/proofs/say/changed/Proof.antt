@@ -1,9 +1,9 @@
--- `sequences::say_changed` is safe and ends: the place rises up to the length. Assumes nothing.
+-- `sequences::say::changed` is safe and ends: the place rises up to the length. Assumes nothing.
 use Prim.Native.Nat.{_-_}
 use lib.ListN.{length}
 use borrow.Author.Needs.{needs}
-use Rattle.sequences.proofs.say_changed.Statement.{statement}
-use Rattle.sequences.proofs.say_changed.Tie as tie
+use Rattle.sequences.proofs.say.changed.Statement.{statement}
+use Rattle.sequences.proofs.say.changed.Tie as tie
 
 abbrev Inv-loop : tie.InvT-loop
 Inv-loop letter old new i₀ i = Unit {0}
@@ -29,14 +29,14 @@ mul-if2-2 c = search needs
 shared-slice-read-if2-2 : tie.Need-shared-slice-read-if2-2 Inv-loop μ-loop
 shared-slice-read-if2-2 c = search needs
 
-mul-say-cell : tie.Need-mul-say-cell Inv-loop μ-loop
-mul-say-cell c = search needs
+mul-cell : tie.Need-mul-cell Inv-loop μ-loop
+mul-cell c = search needs
 
-shared-slice-read-say-cell : tie.Need-shared-slice-read-say-cell Inv-loop μ-loop
-shared-slice-read-say-cell c = search needs
+shared-slice-read-cell : tie.Need-shared-slice-read-cell Inv-loop μ-loop
+shared-slice-read-cell c = search needs
 
-say-cell-requires : tie.Need-say-cell-requires Inv-loop μ-loop
-say-cell-requires c κs = search needs
+cell-requires : tie.Need-cell-requires Inv-loop μ-loop
+cell-requires c κs = search needs
 
 add-i : tie.Need-add-i Inv-loop μ-loop
 add-i c = search needs
@@ -50,8 +50,8 @@ loop-again c = search needs
 returns-2 : tie.Need-returns-2 Inv-loop μ-loop
 returns-2 c = search needs
 
-pub say-changed-spec : {M : Type 1} → statement M
-say-changed-spec =
+pub changed-spec : {M : Type 1} → statement M
+changed-spec =
     tie.close
     (tie.spec
     Inv-loop
@@ -62,9 +62,9 @@ say-changed-spec =
     shared-slice-read-if2
     mul-if2-2
     shared-slice-read-if2-2
-    mul-say-cell
-    shared-slice-read-say-cell
-    say-cell-requires
+    mul-cell
+    shared-slice-read-cell
+    cell-requires
     add-i
     loop-less
     loop-again
