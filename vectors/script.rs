@@ -1,6 +1,6 @@
 //! What the cases by hand are made of.
 
-use crate::field::{ID_BITS, OPCODE_BITS};
+use crate::field::{ID_BITS, OPCODE_BITS, P};
 use crate::steps::{needs, State};
 use crate::{Question, COUNTS, NODES, VALUES};
 
@@ -9,9 +9,12 @@ pub const ALL: [usize; 3] = [VALUES, COUNTS, NODES];
 /// ctx, clk, num_read and num_eval: ids 6 to 3 are read, ids 2 to 0 are gates.
 pub const SEVEN_WIRES: [u32; 4] = [5, 9, 2, 3];
 
+pub const NEAR_P: [u64; 3] = [P - 1, P, u64::MAX];
+pub const NEAR_FULL: [u32; 3] = [u32::MAX - 2, u32::MAX - 1, u32::MAX];
+
 pub const GOOD_WORD: [u64; 4] = [11, 12, 13, 14];
 
-/// Sums and products by 2^32, where a narrower sum would wrap, are among them.
+/// READ and EVAL counts on both sides of each edge; of some a sum of 32 bits would wrap.
 pub const OPENINGS: [[u32; 2]; 27] = [
     [0, 0],
     [0, 1],

@@ -63,29 +63,26 @@ pub struct Answer {
     changes: Vec<(char, usize, u64)>,
 }
 
-fn state_numbers(state: &State) -> Vec<u64> {
-    let State {
-        ctx,
-        clk,
-        num_read,
-        num_eval,
-        reads_done,
-        evals_done,
-        id_next,
-    } = *state;
-    let mut numbers: Vec<u64> = [ctx, clk, num_read, num_eval, reads_done, evals_done]
-        .map(u64::from)
-        .to_vec();
-    numbers.push(id_next);
-    numbers
+fn state_numbers(state: &State) -> [u64; 7] {
+    [
+        state.ctx.into(),
+        state.clk.into(),
+        state.num_read.into(),
+        state.num_eval.into(),
+        state.reads_done.into(),
+        state.evals_done.into(),
+        state.id_next,
+    ]
 }
 
-fn header_numbers(header: &Header) -> Vec<u64> {
-    let mut numbers: Vec<u64> = [header.ctx, header.clk, header.num_read, header.num_eval]
-        .map(u64::from)
-        .to_vec();
-    numbers.push(header.id_next);
-    numbers
+fn header_numbers(header: &Header) -> [u64; 5] {
+    [
+        header.ctx.into(),
+        header.clk.into(),
+        header.num_read.into(),
+        header.num_eval.into(),
+        header.id_next,
+    ]
 }
 
 impl Buffers {
@@ -107,7 +104,7 @@ impl Buffers {
         values.chain(counts).chain(nodes)
     }
 
-    /// The cells of these that are other ones there.
+    /// The cells that are others after a call.
     fn changes(&self, after: &Buffers) -> Vec<(char, usize, u64)> {
         let both = self.cells().zip(after.cells());
         both.filter(|(old, new)| old != new)
@@ -121,15 +118,7 @@ impl Case {
         Case {
             buffers: Buffers::canaries(),
             lent: [0; 3],
-            state: State {
-                ctx: 0,
-                clk: 0,
-                num_read: 0,
-                num_eval: 0,
-                reads_done: 0,
-                evals_done: 0,
-                id_next: 0,
-            },
+            state: State::default(),
         }
     }
 
@@ -208,7 +197,7 @@ impl fmt::Display for Question {
     fn fmt(&self, f: &mut fmt::Formatter<'_>) -> fmt::Result {
         let (letter, numbers) = match *self {
             Question::Begin(lent) => ('B', lent.map(|n| n as u64).to_vec()),
-            Question::Set(state) => ('S', state_numbers(&state)),
+            Question::Set(state) => ('S', state_numbers(&state).to_vec()),
             Question::Value(i, cell) => ('V', vec![i as u64, cell]),
             Question::Count(i, count) => ('C', vec![i as u64, count.into()]),
             Question::Node(i, cell) => ('N', vec![i as u64, cell]),

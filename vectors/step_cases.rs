@@ -4,7 +4,7 @@
 use crate::field::{ID_BITS, P};
 use crate::script::{
     calls, count, exact, last_wire, seven, sound_states, value, word, Script, ALL, GOOD_WORD,
-    OPENINGS, SEVEN_WIRES,
+    NEAR_FULL, NEAR_P, OPENINGS, SEVEN_WIRES,
 };
 use crate::Question;
 
@@ -17,9 +17,6 @@ const LISTING_WORDS: [u64; 4] = [
 ];
 /// "P12 its last word as 2305843011361177601: 12."
 const WORD_OF_P12: u64 = 2_305_843_011_361_177_601;
-
-const NEAR_P: [u64; 3] = [P - 1, P, u64::MAX];
-const NEAR_FULL: [u32; 3] = [u32::MAX - 2, u32::MAX - 1, u32::MAX];
 
 /// An opcode that is refused, with ids that are made.
 const NO_OPCODE: u64 = 3;

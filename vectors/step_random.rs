@@ -2,17 +2,15 @@
 
 use crate::field::{OPCODE_BITS, P};
 use crate::random::Random;
-use crate::script::{exact, word, ALL};
+use crate::script::{exact, word, ALL, NEAR_FULL, NEAR_P};
 use crate::state_cases::with_number;
 use crate::steps::State;
 use crate::{Case, Question};
 
-const SEQUENCES: usize = 280;
+const SEQUENCES: usize = 260;
 const SEED: u64 = 3;
 
 const CORNERS: [u64; 6] = [0, 1, 7, P - 1, P - 7, 1 << 32];
-const NEAR_P: [u64; 4] = [P - 1, P, P + 1, u64::MAX];
-const NEAR_FULL: [u32; 3] = [u32::MAX - 2, u32::MAX - 1, u32::MAX];
 
 /// A sequence as it grows: what is asked next depends on how far the calls have come.
 struct Sequence<'a> {
@@ -39,24 +37,15 @@ impl Random {
         }
     }
 
-    fn elements<const N: usize>(&mut self) -> [u64; N] {
+    fn cells(&mut self) -> [u64; 4] {
         std::array::from_fn(|_| self.element())
     }
 
-    /// A circuit that the buffers hold.
+    /// The buffers hold the largest of these circuits.
     fn circuit(&mut self) -> [u32; 4] {
-        loop {
-            let [ctx, clk] = [self.below(100), self.next() >> 32].map(|n| n as u32);
-            let [num_read, num_eval] = [4, 6].map(|most| 1 + self.below(most) as u32);
-            let opened = [ctx, clk, num_read, num_eval];
-            if exact(opened)
-                .iter()
-                .zip(ALL)
-                .all(|(&need, all)| need <= all)
-            {
-                return opened;
-            }
-        }
+        let [ctx, clk] = [self.below(100), self.next() >> 32];
+        let [num_read, num_eval] = [1 + self.below(4), 1 + self.below(6)];
+        [ctx, clk, num_read, num_eval].map(|n| n as u32)
     }
 
     /// What the circuit needs, or up to two cells more; sometimes one less.
@@ -99,7 +88,7 @@ impl Sequence<'_> {
     }
 
     fn good_read(&mut self) -> Question {
-        Question::Read(self.random.below(1000), self.random.elements())
+        Question::Read(self.random.below(1000), self.random.cells())
     }
 
     /// Sometimes a wire less itself, which is zero.
@@ -125,7 +114,7 @@ impl Sequence<'_> {
         let number = self.random.one_of(&NEAR_P);
         let place = self.random.below(5) as usize;
         match self.good_step() {
-            Question::Read(_, _) if place == 4 => Question::Read(number, self.random.elements()),
+            Question::Read(_, _) if place == 4 => Question::Read(number, self.random.cells()),
             Question::Read(ptr, mut cells) => {
                 cells[place] = number;
                 Question::Read(ptr, cells)
@@ -146,7 +135,8 @@ impl Sequence<'_> {
         Question::Eval(self.random.below(1000), word(opcode, left, right))
     }
 
-    /// A cell or a count of a made wire near its end, and after the next step as it was.
+    /// A step after a made wire's cell or count was set near its end. Left so, the cell would stop most
+    /// steps to come.
     fn spoilt_wire(&mut self) {
         let position = self.made_position();
         if self.random.below(2) == 0 {
@@ -165,7 +155,7 @@ impl Sequence<'_> {
         }
     }
 
-    /// One number of the state off by a little; where the call is refused, the state is set right again.
+    /// A call on a state with one number a little off; where it is refused, the sound state goes on.
     fn spoilt_state(&mut self) {
         let sound = self.case.state;
         let which = self.random.below(7) as usize;
@@ -201,6 +191,7 @@ impl Sequence<'_> {
         let lengths = self.random.lengths(opened);
         self.ask(Question::Begin(lengths));
         self.ask(Question::Open(opened));
+        // Refused for its room, as the step on it is then too.
         if self.case.state.num_read == 0 {
             let begun = State::after(opened, 0, 0);
             self.ask(Question::Set(begun));

@@ -13,7 +13,7 @@ const FULL_COUNT: u32 = 4_294_967_295;
 const READ_NODE: usize = 7;
 const EVAL_NODE: usize = 11;
 
-#[derive(Clone, Copy, PartialEq)]
+#[derive(Clone, Copy, Default, PartialEq)]
 pub struct State {
     pub ctx: u32,
     pub clk: u32,
