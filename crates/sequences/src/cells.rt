@@ -18,7 +18,7 @@ pub const COUNT_CANARY: u32 = 2000;
 
 pub const NODE_CANARY: u64 = 3000;
 
-const LARGEST_WORD: u64 = 4294967295;
+const LARGEST_WORD: u32 = 4294967295;
 
 pub struct Case {
     pub state: CircuitEvaluation,
@@ -29,8 +29,8 @@ pub struct Case {
 
 // A number of 32 bits; one that has more is taken for the largest.
 fn word(n: u64) -> u32 {
-    if LARGEST_WORD < n {
-        return 4294967295;
+    if (LARGEST_WORD as u64) < n {
+        return LARGEST_WORD;
     }
     n as u32
 }
