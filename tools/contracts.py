@@ -1,7 +1,8 @@
 #!/usr/bin/env python3
 """Holds docs/CONTRACTS.md to the code: it names every public function and no other, and every
 must-fail edit and no other; and each public function's contract determines its outcome by form: no
-`requires`, an `ensures` that names the result, and `.exit` of every `&mut` parameter."""
+`requires`, an `ensures` that names the result, and `.exit` of every `&mut` parameter. A method is
+public with its type wherever its block stands, so those of private modules say `pub(crate)`."""
 import pathlib
 import re
 import sys
@@ -62,17 +63,34 @@ def functions(text, path):
         yield name, list(faults(parameters, head.group(1), clauses))
 
 
-def public(file, path):
-    """The public functions of a module and of those that it makes public."""
+def modules(file, path=""):
+    """A module's file and those of the modules that it makes public, each with its path."""
+    yield file, path
     text = without_comments(file.read_text("utf-8"))
-    yield from functions(text, path)
-    for name in re.findall(r"\bpub\s+use\s+([^;]+);", text):
-        yield path + name, ["is passed on by `pub use`, which this check does not follow"]
     folder = file.parent if file.stem in ("lib", "mod") else file.parent / file.stem
     for name in re.findall(r"\bpub\s+mod\s+(\w+)\s*;", text):
         for inner in (folder / f"{name}.rt", folder / name / "mod.rt"):
             if inner.exists():
-                yield from public(inner, f"{path}{name}::")
+                yield from modules(inner, f"{path}{name}::")
+
+
+def public(crate):
+    """The public functions of a crate."""
+    for file, path in modules(crate / "src/lib.rt", f"{crate.name}::"):
+        text = without_comments(file.read_text("utf-8"))
+        yield from functions(text, path)
+        for name in re.findall(r"\bpub\s+use\s+([^;]+);", text):
+            yield path + name, ["is passed on by `pub use`, which this check does not follow"]
+
+
+def hidden(crate):
+    """The methods that a private module would make public."""
+    reached = {place for place, _ in modules(crate / "src/lib.rt")}
+    for file in sorted((crate / "src").glob("**/*.rt")):
+        text = without_comments(file.read_text("utf-8"))
+        for found in FUNCTION.finditer(text) if file not in reached else ():
+            if type_name := owner(text, found.start()):
+                yield f"{crate.name}: {type_name}{found.group(1)} stands in a private module and is not pub(crate)"
 
 
 def complaints():
@@ -80,7 +98,8 @@ def complaints():
     rows = re.findall(r"^\| `(\w+(?:::\w+)+)`", paper, re.M)
     code = {}
     for root in sorted(pathlib.Path("crates").glob("*/src/lib.rt")):
-        code.update(public(root, f"{root.parts[1]}::"))
+        code.update(public(root.parents[1]))
+        yield from hidden(root.parents[1])
     yield from (f"{name}: {fault}" for name, lacks in code.items() for fault in lacks)
     yield from (f"{name} is public and {PAPER} does not name it" for name in code if name not in rows)
     yield from (f"{PAPER} names {name}, which is no public function" for name in rows if name not in code)

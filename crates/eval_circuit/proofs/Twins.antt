@@ -5,7 +5,7 @@ use mathlib.Core.Path.{_≡_, refl}
 use mathlib.Core.List.{List, [], _∷_}
 use native.Mathlib.Omega.{arith}
 use lib.ListN.{getD}
-use Rattle.field.specs.Told.{accepted}
+use Rattle.field.specs.Told.{accepted, refused}
 use Rattle.field.specs.Field.{p, firstOver}
 use Rattle.field.specs.Answer.{ofElements}
 use Rattle.field.proofs.Over.{over-below}
@@ -26,11 +26,7 @@ pub other-answered : evalAnswer 0 7 0 2 4 other before ≡ accepted (0 ∷ 7 ∷
 unfolding evalAnswer ofRegion ofCells room firstOver gatesAnswer gateAnswer decodeAnswer ofElements valueBy
 other-answered = refl
 
--- the values do tell them apart
-pub memory-values : evalBuffers 0 7 0 2 4 memory before .values ≡ 3 ∷ 0 ∷ 4 ∷ 0 ∷ 7 ∷ 0 ∷ 12 ∷ 0 ∷ 0 ∷ 0 ∷ 0 ∷ 0 ∷ 9 ∷ []
-unfolding evalBuffers evalAnswer ofRegion ofCells room firstOver gatesAnswer gateAnswer decodeAnswer ofElements valueBy each
-memory-values = refl
-
+-- the values do tell them apart: the listing has 3 0 4 0 7 0 12 0 (`valued`)
 pub other-values : evalBuffers 0 7 0 2 4 other before .values ≡ 5 ∷ 1 ∷ 6 ∷ 2 ∷ 11 ∷ 3 ∷ 44 ∷ 16 ∷ 0 ∷ 0 ∷ 0 ∷ 0 ∷ 9 ∷ []
 unfolding evalBuffers evalAnswer ofRegion ofCells room firstOver gatesAnswer gateAnswer decodeAnswer ofElements valueBy each
 other-values = refl
@@ -62,3 +58,15 @@ twins = record {
 
 pub twins-same : SameRecord 2 4 (header 0 7 2 4) (header 0 7 2 4) (evalBuffers 0 7 0 2 4 memory before) (evalBuffers 0 7 0 2 4 other before)
 twins-same = unseen 0 7 0 2 4 memory other before twins .accepted-alike _ _ answered other-answered
+
+-- a shape that tells its READ cells apart, by 12 alone: (v0 - v1) to the eighth power
+abbrev power : List ℕ
+power = 4294967301 ∷ 1152921507828072451 ∷ 1152921506754330626 ∷ 1152921505680588801 ∷ []
+
+pub equal-accepted : evalAnswer 0 7 0 2 4 (3 ∷ 0 ∷ 3 ∷ 0 ∷ power) before ≡ accepted (header 0 7 2 4)
+unfolding evalAnswer ofRegion ofCells room firstOver gatesAnswer gateAnswer decodeAnswer ofElements valueBy
+equal-accepted = refl
+
+pub unequal-refused : evalAnswer 0 7 0 2 4 (3 ∷ 0 ∷ 4 ∷ 0 ∷ power) before ≡ refused 12 0
+unfolding evalAnswer ofRegion ofCells room firstOver gatesAnswer gateAnswer decodeAnswer ofElements valueBy
+unequal-refused = refl

@@ -23,15 +23,19 @@ pub answered : evalAnswer 0 7 0 2 4 memory before ≡ accepted (0 ∷ 7 ∷ 1 �
 unfolding evalAnswer ofRegion ofCells room firstOver gatesAnswer gateAnswer decodeAnswer ofElements valueBy
 answered = refl
 
+pub valued : evalBuffers 0 7 0 2 4 memory before .values ≡ 3 ∷ 0 ∷ 4 ∷ 0 ∷ 7 ∷ 0 ∷ 12 ∷ 0 ∷ 0 ∷ 0 ∷ 0 ∷ 0 ∷ 9 ∷ []
+unfolding evalBuffers evalAnswer ofRegion ofCells room firstOver gatesAnswer gateAnswer decodeAnswer ofElements valueBy each
+valued = refl
+
 pub counted : evalBuffers 0 7 0 2 4 memory before .counts ≡ 2 ∷ 2 ∷ 2 ∷ 1 ∷ 1 ∷ 0 ∷ 9 ∷ []
 unfolding evalBuffers evalAnswer ofRegion ofCells room firstOver gatesAnswer gateAnswer decodeAnswer ofElements valueBy namedBy each
 counted = refl
 
-pub node : evalBuffers 0 7 0 2 4 memory before .nodes
+pub noded : evalBuffers 0 7 0 2 4 memory before .nodes
     ≡ 0 ∷ 5 ∷ 3 ∷ 0 ∷ 4 ∷ 4 ∷ 0
     ∷ 4 ∷ 1 ∷ 3 ∷ 7 ∷ 0 ∷ 5 ∷ 3 ∷ 0 ∷ 4 ∷ 4 ∷ 0
     ∷ 5 ∷ 0 ∷ 2 ∷ 12 ∷ 0 ∷ 5 ∷ 3 ∷ 0 ∷ 4 ∷ 4 ∷ 0
     ∷ 6 ∷ (p - 1) ∷ 1 ∷ 0 ∷ 0 ∷ 3 ∷ 7 ∷ 0 ∷ 3 ∷ 7 ∷ 0
     ∷ 7 ∷ 0 ∷ 0 ∷ 0 ∷ 0 ∷ 1 ∷ 0 ∷ 0 ∷ 2 ∷ 12 ∷ 0 ∷ 9 ∷ []
 unfolding evalBuffers evalAnswer ofRegion ofCells room firstOver gatesAnswer gateAnswer decodeAnswer ofElements valueBy namedBy each
-node = refl
+noded = refl

@@ -4,11 +4,17 @@ use Prim.Native.Nat.{ℕ, _-_}
 use Prim.Native.String.{String}
 use mathlib.Core.Path.{_≡_, refl}
 use mathlib.Core.List.{List, [], _∷_, map}
+use lib.ListN.{set, replicate}
 use Rattle.field.specs.Told.{Told, accepted, refused}
 use Rattle.field.specs.Field.{p, firstOver}
 use Rattle.field.specs.Pair.{mulPair, subPair}
 use Rattle.field.specs.Answer.{ofElements, quadAnswer}
 use Rattle.instruction.specs.Decode.{decodeAnswer}
+use Rattle.trace.specs.Counts.{room}
+use Rattle.trace.specs.Outcome.{Lent, lent}
+use Rattle.eval_circuit.specs.Circuit.{valueBy, namedBy, gateAnswer, gatesAnswer}
+use Rattle.eval_circuit.specs.Evaluated.{ofRegion, ofCells, evalAnswer, each, evalBuffers}
+use Rattle.eval_circuit.specs.Listing.{memory}
 use Rattle.numbers.specs.Form.{bytesOf, bytesIn}
 
 pub data Question : Type 0 where
@@ -16,17 +22,26 @@ pub data Question : Type 0 where
   times : List ℕ → List ℕ → Question
   minus : List ℕ → List ℕ → Question
   bytes : ℕ → Question
+  evaluate : List ℕ → Question
+  multiplicities : List ℕ → Question
 
 pub record Case : Type 0 where
   pub name : String
   pub question : Question
   pub answer : Told
 
+-- buffers for six wires, one READ and four EVAL nodes, and no cell more
+abbrev exactRoom : Lent
+exactRoom = lent (replicate 12 9) (replicate 6 9) (replicate 51 9)
+
+-- of a memory: the listing's evaluation, and its counts from id 5 to id 0
 abbrev pub ask : Question → Told
 ask (decode v) = decodeAnswer v
 ask (times a b) = quadAnswer mulPair a b
 ask (minus a b) = quadAnswer subPair a b
 ask (bytes v) = accepted (bytesOf v)
+ask (evaluate memory) = evalAnswer 0 7 0 2 4 memory exactRoom
+ask (multiplicities memory) = accepted (evalBuffers 0 7 0 2 4 memory exactRoom .counts)
 
 abbrev case : String → Question → Told → Case
 case n q t = record { name = n; question = q; answer = t }
@@ -43,8 +58,10 @@ cases =
     ∷ case "P8" (minus (0 ∷ 0 ∷ []) (1 ∷ 0 ∷ [])) (accepted ((p - 1) ∷ 0 ∷ []))
     ∷ case "P9" (bytes 128) (accepted (0x80 ∷ 0x01 ∷ []))
     ∷ case "P10" (bytes (p - 1)) (accepted (0x80 ∷ 0x80 ∷ 0x80 ∷ 0x80 ∷ 0xf0 ∷ 0xff ∷ 0xff ∷ 0xff ∷ 0xff ∷ 0x01 ∷ []))
+    ∷ case "P11" (multiplicities memory) (accepted (2 ∷ 2 ∷ 2 ∷ 1 ∷ 1 ∷ 0 ∷ []))
+    ∷ case "P12" (evaluate (set memory 7 2305843011361177601)) (refused 12 0)
     ∷ []
 
 pub all-hold : map (λ (c : Case). ask (c .question)) cases ≡ map (λ (c : Case). c .answer) cases
-unfolding decodeAnswer ofElements firstOver bytesOf bytesIn
+unfolding decodeAnswer ofElements firstOver bytesOf bytesIn evalBuffers evalAnswer ofRegion ofCells room gatesAnswer gateAnswer valueBy namedBy each
 all-hold = refl
