@@ -19,6 +19,7 @@ use Rattle.trace.specs.declared.OutputAnswer.{OutputAnswer}
 use Rattle.trace.specs.declared.OutputAnswer.the-variants as output
 use Rattle.trace.specs.Counts.{mostWires, nodeCells, room}
 use Rattle.trace.specs.State.{wiresOf}
+use Rattle.trace.specs.Inside.{Room}
 use Rattle.trace.specs.Outcome.{Lent, lent}
 use Rattle.trace.specs.Open.{opened, numbersOf, openAnswer}
 use Rattle.trace.specs.Output.{isZero, outputTold}
@@ -26,7 +27,7 @@ use Rattle.trace.proofs.Tests.{room-of, counts-pass}
 use Rattle.trace.proofs.Answers.{open-determined}
 use Rattle.eval_circuit.specs.Circuit.{Circuit, numWires, value}
 use Rattle.eval_circuit.specs.Evaluated.{memoryCells, regionCells, circuitAt, ofCells, circuitAnswer, ofRegion, evalAnswer, each, valueCells, countCell, readCells, evalCells, filled, zeroed, cleared, buffersAfter, evalBuffers}
-use Rattle.eval_circuit.specs.Inside.{circuitOf, after, stage, Past, Prepared, Used, Ran}
+use Rattle.eval_circuit.specs.Inside.{circuitOf, after, stage, Past, Prepared, Ran}
 use Rattle.eval_circuit.proofs.Cases.{clash, same-refusal}
 use Rattle.eval_circuit.proofs.Gates.{First, Passed, gate-refused, gates-refused}
 use Rattle.eval_circuit.proofs.RegionCells.{memory-most, region-length, region-at, cells-pass}
@@ -264,6 +265,6 @@ over-is memory ptr v e end over o q =
     o ∙ ap (λ (n : ℕ). ptr + firstOver (take n (drop ptr memory))) l
 
 -- what a run leaves has room still
-pub used-by : (s : CircuitEvaluation) (memory : List ℕ) (ptr : ℕ) (b : Lent) (vs cs ns : List ℕ) → Prepared s memory ptr b
-    → length vs ≡ length (b .values) → length cs ≡ length (b .counts) → length ns ≡ length (b .nodes) → Used s vs cs ns
-used-by s memory ptr b vs cs ns k ev ec en = record { used-few = k .few; used-values = rw ev (k .for-values); used-counts = rw ec (k .for-counts); used-nodes = rw en (k .for-nodes) }
+pub room-after : (s : CircuitEvaluation) (memory : List ℕ) (ptr : ℕ) (b : Lent) (vs cs ns : List ℕ) → Prepared s memory ptr b
+    → length vs ≡ length (b .values) → length cs ≡ length (b .counts) → length ns ≡ length (b .nodes) → Room s vs cs ns
+room-after s memory ptr b vs cs ns k ev ec en = record { few = k .few; room-values = rw ev (k .for-values); room-counts = rw ec (k .for-counts); room-nodes = rw en (k .for-nodes) }

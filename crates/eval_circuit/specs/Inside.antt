@@ -63,13 +63,6 @@ pub record Prepared (s : CircuitEvaluation) (memory : List ℕ) (ptr : ℕ) (b :
   pub addresses : ptr + (4 * s .«num_read» + s .«num_eval») ≤ p
   pub elements : (j : ℕ) → j < 4 * s .«num_read» + s .«num_eval» → getD memory (ptr + j) 0 < p
 
--- room for what a circuit uses
-pub record Used (s : CircuitEvaluation) (vs cs ns : List ℕ) : Type 0 where
-  pub used-few : wiresOf s ≤ mostWires
-  pub used-values : 2 * wiresOf s ≤ length vs
-  pub used-counts : wiresOf s ≤ length cs
-  pub used-nodes : nodeCells (s .«num_read») (s .«num_eval») ≤ length ns
-
 -- the four cells from an address on, as two pairs
 abbrev pub wordAt : List ℕ → ℕ → List (List ℕ)
 wordAt memory at = (getD memory at 0 ∷ getD memory (at + 1) 0 ∷ []) ∷ (getD memory (at + 2) 0 ∷ getD memory (at + 3) 0 ∷ []) ∷ []

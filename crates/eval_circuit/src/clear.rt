@@ -5,12 +5,14 @@ ghost use Prim.Native.Nat.{_*_, _≤_};
 ghost use lib.ListN.{length};
 ghost use Rattle.trace.specs.Counts.{nodeCells};
 ghost use Rattle.trace.specs.State.{wiresOf};
+ghost use Rattle.trace.specs.Inside.{Room};
 ghost use Rattle.eval_circuit.specs.Evaluated.{zeroed};
-ghost use Rattle.eval_circuit.specs.Inside.{Used};
 use trace::CircuitEvaluation;
+use trace::EVAL_CELLS;
+use trace::READ_CELLS;
 
 pub fn clear(state: CircuitEvaluation, values: &mut [u64], counts: &mut [u32], nodes: &mut [u64])
-    requires { ⌜ Used state (now values) (now counts) (now nodes) ⌝ }
+    requires { ⌜ Room state (now values) (now counts) (now nodes) ⌝ }
     ensures { λ _. ⌜ now (values .exit) ≡ zeroed (2 * wiresOf state) (now (values .entry)) ⌝ }
     ensures { λ _. ⌜ now (counts .exit) ≡ zeroed (wiresOf state) (now (counts .entry)) ⌝ }
     ensures { λ _. ⌜ now (nodes .exit) ≡ zeroed (nodeCells (state .«num_read») (state .«num_eval»)) (now (nodes .entry)) ⌝ }
@@ -19,7 +21,7 @@ pub fn clear(state: CircuitEvaluation, values: &mut [u64], counts: &mut [u32], n
     let evals = state.num_eval as usize;
     zero_cells(values, 2 * (2 * reads + evals));
     zero_counts(counts, 2 * reads + evals);
-    zero_cells(nodes, 7 * reads + 11 * evals);
+    zero_cells(nodes, READ_CELLS * reads + EVAL_CELLS * evals);
 }
 
 fn zero_cells(cells: &mut [u64], n: usize)

@@ -23,6 +23,11 @@ use instruction::decode_instruction;
 
 pub const MAX_EVAL_CIRCUIT_WIRES: u32 = 1 << 15;
 
+// The cells of a READ node and of an EVAL node.
+pub const READ_CELLS: usize = 7;
+
+pub const EVAL_CELLS: usize = 11;
+
 // The refusals of a circuit that is too large, of its count of READ steps and of EVAL steps.
 pub const TOO_MANY_WIRES: u32 = 1;
 

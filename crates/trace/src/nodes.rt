@@ -6,10 +6,6 @@ ghost use lib.ListN.{length};
 ghost use lib.Seq.{sets};
 ghost use Rattle.trace.specs.Inside.{readCells, evalCells};
 
-pub const READ_CELLS: usize = 7;
-
-pub const EVAL_CELLS: usize = 11;
-
 pub struct ReadNode {
     pub ptr: u64,
     pub id_0: u64,

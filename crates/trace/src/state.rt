@@ -15,13 +15,13 @@ ghost use Rattle.trace.specs.Inside.{testedTold};
 use crate::BAD_EVAL_COUNT;
 use crate::BAD_READ_COUNT;
 use crate::CircuitEvaluation;
+use crate::EVAL_CELLS;
 use crate::MAX_EVAL_CIRCUIT_WIRES;
 use crate::OUT_OF_TURN;
+use crate::READ_CELLS;
 use crate::SHORT_BUFFER;
 use crate::TOO_MANY_WIRES;
 use crate::Tested;
-use crate::nodes::EVAL_CELLS;
-use crate::nodes::READ_CELLS;
 use field::NOT_ELEMENT;
 use field::P;
 

@@ -17,7 +17,7 @@ use Rattle.trace.specs.Counts.{room}
 use Rattle.trace.specs.declared.CircuitEvaluation.{CircuitEvaluation}
 use Rattle.eval_circuit.specs.Inside.{Prepared, after}
 use Rattle.eval_circuit.specs.Evaluated.{memoryCells, regionCells, circuitAt}
-use Rattle.eval_circuit.proofs.Whole.{stops-early, stops-short, stops-over, opened-is, prepared, used-by, over-is, ends-zero, ends-otherwise}
+use Rattle.eval_circuit.proofs.Whole.{stops-early, stops-short, stops-over, opened-is, prepared, room-after, over-is, ends-zero, ends-otherwise}
 use Rattle.eval_circuit.proofs.RegionCells.{memory-most}
 use Rattle.eval_circuit.proofs.RegionTests.{Region, region-of}
 use Rattle.eval_circuit.proofs.eval_circuit.Tie as tie
@@ -143,7 +143,7 @@ enum-told-3 : tie.Need-enum-told-3
 enum-told-3 c = search needs
 
 clear-requires : tie.Need-clear-requires
-clear-requires c κs = used-by _ _ _ _ _ _ _ (ready (c .before .before .before .before .before .before .before .before .before .before .before .before .before .before .before) .0) (c .before .before .before .before .before .before .before .before .before .before .before .run .kept .1 .1 .1 .0) (c .before .before .before .before .before .before .before .before .before .before .before .run .kept .1 .1 .1 .1 .0) (c .before .before .before .before .before .before .before .before .before .before .before .run .kept .1 .1 .1 .1 .1 .0)
+clear-requires c κs = room-after _ _ _ _ _ _ _ (ready (c .before .before .before .before .before .before .before .before .before .before .before .before .before .before .before) .0) (c .before .before .before .before .before .before .before .before .before .before .before .run .kept .1 .1 .1 .0) (c .before .before .before .before .before .before .before .before .before .before .before .run .kept .1 .1 .1 .1 .0) (c .before .before .before .before .before .before .before .before .before .before .before .run .kept .1 .1 .1 .1 .1 .0)
 
 same-length-7 : tie.Need-same-length-7
 same-length-7 c = search needs
