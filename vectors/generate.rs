@@ -2,23 +2,22 @@
 //! parts 1 to 3 here, and after them those of `number_cases`. `generate questions` and `generate answers`
 //! write one line each, in the same order.
 
+mod field;
+mod lines;
 mod number_cases;
 mod numbers;
 mod random;
 
 use std::fmt;
-use std::io::{self, BufWriter, Write};
+use std::io;
 use std::ops::Range;
 use std::process::ExitCode;
 
+use field::{add, decode, mul, sub, Op, ID_BITS, OPCODE_BITS, P};
+use lines::{write_lines, write_numbers};
 use random::Random;
 
-/// "p = 2^64 - 2^32 + 1 = 18446744069414584321."
-const P: u64 = 18_446_744_069_414_584_321;
-
 const TWO_32: u64 = 1 << 32;
-const ID_BITS: u32 = 30;
-const OPCODE_BITS: u32 = 60;
 
 const CORNERS: [u64; 7] = [0, 1, P - 1, P, TWO_32 - 1, TWO_32 + 1, u64::MAX];
 /// For elements only.
@@ -59,13 +58,6 @@ const WORDS_OF_01: [u64; 5] = [
 const RANDOM_CASES: usize = 200;
 const SEED: u64 = 1;
 
-#[derive(Clone, Copy)]
-enum Op {
-    Sum,
-    Difference,
-    Product,
-}
-
 const OPS: [Op; 3] = [Op::Sum, Op::Difference, Op::Product];
 
 enum Question {
@@ -79,37 +71,12 @@ enum Answer {
     Refuse(u32, usize),
 }
 
-fn add(a: u64, b: u64) -> u64 {
-    ((u128::from(a) + u128::from(b)) % u128::from(P)) as u64
-}
-
-fn sub(a: u64, b: u64) -> u64 {
-    ((u128::from(a) + u128::from(P) - u128::from(b)) % u128::from(P)) as u64
-}
-
-fn mul(a: u64, b: u64) -> u64 {
-    (u128::from(a) * u128::from(b) % u128::from(P)) as u64
-}
-
 impl Op {
     fn of_elements(self, [a, b]: [u64; 2]) -> u64 {
         match self {
             Op::Sum => add(a, b),
             Op::Difference => sub(a, b),
             Op::Product => mul(a, b),
-        }
-    }
-
-    /// "A pair (a0, a1) stands for a0 + a1·X with X·X = 7, so (a0, a1)(b0, b1) =
-    /// (a0·b0 + 7·a1·b1, a0·b1 + a1·b0)."
-    fn of_pairs(self, [a0, a1, b0, b1]: [u64; 4]) -> [u64; 2] {
-        match self {
-            Op::Sum => [add(a0, b0), add(a1, b1)],
-            Op::Difference => [sub(a0, b0), sub(a1, b1)],
-            Op::Product => [
-                add(mul(a0, b0), mul(7, mul(a1, b1))),
-                add(mul(a0, b1), mul(a1, b0)),
-            ],
         }
     }
 }
@@ -121,15 +88,12 @@ fn first_refused(numbers: &[u64]) -> Option<Answer> {
     Some(Answer::Refuse(7, place))
 }
 
-/// "left id = v mod 2^30, right id = floor(v / 2^30) mod 2^30, opcode = floor(v / 2^60). 0 Sub,
-/// 1 Mul, 2 Add, 3 to 15 refused." "decode called alone gives 8 with gate 0."
-fn decode(word: u64) -> Answer {
-    let ids = 1 << ID_BITS;
-    let opcode = word >> OPCODE_BITS;
-    if opcode > 2 {
-        return Answer::Refuse(8, 0);
+/// "Decode called alone gives 8 with gate 0."
+fn decoded(word: u64) -> Answer {
+    match decode(word) {
+        Some(instruction) => Answer::Accept(instruction.to_vec()),
+        None => Answer::Refuse(8, 0),
     }
-    Answer::Accept(vec![word % ids, (word >> ID_BITS) % ids, opcode])
 }
 
 impl Question {
@@ -157,13 +121,9 @@ impl Question {
         first_refused(self.numbers()).unwrap_or_else(|| match *self {
             Question::Elements(op, numbers) => Answer::Accept(vec![op.of_elements(numbers)]),
             Question::Pairs(op, numbers) => Answer::Accept(op.of_pairs(numbers).to_vec()),
-            Question::Decode(word) => decode(word),
+            Question::Decode(word) => decoded(word),
         })
     }
-}
-
-fn write_numbers(f: &mut fmt::Formatter<'_>, numbers: &[u64]) -> fmt::Result {
-    numbers.iter().try_for_each(|n| write!(f, " {n}"))
 }
 
 impl fmt::Display for Question {
@@ -269,14 +229,6 @@ fn questions() -> Vec<Question> {
     questions
 }
 
-fn write_lines<T: fmt::Display>(lines: impl Iterator<Item = T>) -> io::Result<()> {
-    let mut out = BufWriter::new(io::stdout().lock());
-    for line in lines {
-        writeln!(out, "{line}")?;
-    }
-    out.flush()
-}
-
 fn write_questions() -> io::Result<()> {
     write_lines(questions().iter())?;
     write_lines(number_cases::questions().iter())
@@ -292,20 +244,5 @@ fn write_answers() -> io::Result<()> {
 }
 
 fn main() -> ExitCode {
-    let asked = std::env::args().nth(1);
-    let written = match asked.as_deref() {
-        Some("questions") => write_questions(),
-        Some("answers") => write_answers(),
-        _ => {
-            eprintln!("usage: generate questions|answers");
-            return ExitCode::FAILURE;
-        }
-    };
-    match written {
-        Ok(()) => ExitCode::SUCCESS,
-        Err(error) => {
-            eprintln!("generate: {error}");
-            ExitCode::FAILURE
-        }
-    }
+    lines::written(write_questions, write_answers)
 }
