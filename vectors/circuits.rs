@@ -1,8 +1,8 @@
 //! What the cases of whole evaluation are made of.
 
-use crate::evaluation::Call;
 use crate::field::{ID_BITS, OPCODE_BITS, P};
 use crate::steps::needs;
+use crate::whole::Call;
 use crate::{Question, Said, Setting};
 
 /// "0 Sub, 1 Mul, 2 Add."

@@ -5,10 +5,6 @@
 //! disagrees.
 
 mod circuits;
-mod evaluation;
-mod evaluation_cases;
-mod evaluation_large;
-mod evaluation_random;
 mod field;
 #[cfg(oracle)]
 mod judge;
@@ -17,16 +13,21 @@ mod pattern;
 mod random;
 mod spoil;
 mod steps;
+mod whole;
+mod whole_cases;
+mod whole_large;
+mod whole_random;
+mod whole_values;
 
 use std::fmt;
 use std::io;
 use std::process::ExitCode;
 
-use evaluation::{evaluate, Call};
 use field::P;
 use lines::{write_lines, write_numbers};
 use pattern::{sum, Pattern};
 use steps::{Header, Lent, Refusal};
+use whole::{evaluate, Call};
 
 /// The lengths of memory, and of the value, count and node buffers: room for two wires more than
 /// document 01 allows, and cells past it.
@@ -197,9 +198,10 @@ impl fmt::Display for Answer {
 }
 
 fn questions() -> Vec<Question> {
-    let mut questions = evaluation_cases::questions();
-    questions.extend(evaluation_random::questions());
-    questions.extend(evaluation_large::questions());
+    let mut questions = whole_cases::questions();
+    questions.extend(whole_values::questions());
+    questions.extend(whole_random::questions());
+    questions.extend(whole_large::questions());
     questions
 }
 

@@ -5,9 +5,9 @@ use std::sync::atomic::{AtomicUsize, Ordering};
 
 use oracle::Opened;
 
-use crate::evaluation::Call;
 use crate::field::P;
 use crate::steps::{needs, Header, Refusal};
+use crate::whole::Call;
 use crate::{Buffers, Setting};
 
 static JUDGED: AtomicUsize = AtomicUsize::new(0);

@@ -1,9 +1,10 @@
 //! What makes an evaluation be refused: one change each, of what is asked or of memory, so that two of
 //! them can be made at once.
 
-use crate::circuits::{gate, Script, ADD, LAST_ID};
+use crate::circuits::{exact, gate, Script, ADD, LAST_ID};
 use crate::field::P;
-use crate::{Said, Setting};
+use crate::pattern::Pattern;
+use crate::{Question, Said, Setting, MEMORY};
 
 /// Gates are counted from 0. The name of each gives the refusal.
 #[derive(Clone, Copy)]
@@ -12,9 +13,10 @@ pub enum Spoil {
     Vars2,
     Gates3,
     Pointer4,
-    Memory5,
-    /// The value, count or node buffer.
-    Lent6(usize),
+    /// How many cells short.
+    Memory5(usize),
+    /// The value, count or node buffer, and how many cells short.
+    Lent6(usize, usize),
     /// The cell's number in the region.
     Cell7(u64),
     Opcode8(u64),
@@ -70,8 +72,8 @@ impl Placed {
             Spoil::Vars2 => call.num_vars -= 1,
             Spoil::Gates3 => call.num_eval -= 1,
             Spoil::Pointer4 => call.ptr -= 2,
-            Spoil::Memory5 => *memory -= 1,
-            Spoil::Lent6(i) => lent[i] -= 1,
+            Spoil::Memory5(cells) => *memory -= cells,
+            Spoil::Lent6(i, cells) => lent[i] -= cells,
             _ => {}
         }
     }
@@ -87,6 +89,16 @@ impl Placed {
 }
 
 impl Script {
+    pub fn place_pattern(&mut self, pattern: Pattern) -> Placed {
+        self.0.extend([Question::Begin, Question::Pattern(pattern)]);
+        let mut memory = vec![P; MEMORY];
+        pattern.fill(&mut memory);
+        Placed {
+            memory,
+            setting: exact(pattern.at, pattern.vars, pattern.gates),
+        }
+    }
+
     /// Memory is as it was again after it.
     pub fn ask_spoilt(&mut self, said: Said, placed: &Placed, spoils: &[Spoil]) {
         let spoilt = placed.spoilt(spoils);

@@ -13,6 +13,33 @@ const SMALL_COUNTS: usize = 36;
 
 const SMALL_NODES: usize = 384;
 
+// How many cells are lent of each, and what is handed to the evaluation.
+pub struct Call {
+    pub values: usize,
+    pub counts: usize,
+    pub nodes: usize,
+    pub memory: usize,
+    pub ctx: u32,
+    pub clk: u32,
+    pub ptr: u64,
+    pub num_vars: u64,
+    pub num_eval: u64,
+}
+
+fn call_of(numbers: [u64; NUMBERS]) -> Call {
+    Call {
+        values: numbers[0] as usize,
+        counts: numbers[1] as usize,
+        nodes: numbers[2] as usize,
+        memory: numbers[3] as usize,
+        ctx: cells::word(numbers[4]),
+        clk: cells::word(numbers[5]),
+        ptr: numbers[6],
+        num_vars: numbers[7],
+        num_eval: numbers[8],
+    }
+}
+
 fn bad() {
     say::bytes(b"bad");
 }
@@ -24,45 +51,86 @@ fn told(answer: OutputAnswer) {
     }
 }
 
-// On the parts that the question lends.
-fn evaluate(
-    numbers: [u64; NUMBERS],
+fn evaluate(call: Call, memory: &[u64], values: &mut [u64], counts: &mut [u32], nodes: &mut [u64]) {
+    let answer = eval_circuit(
+        call.ctx,
+        call.clk,
+        call.ptr,
+        call.num_vars,
+        call.num_eval,
+        memory,
+        values,
+        counts,
+        nodes,
+    );
+    told(answer);
+}
+
+// On as much of memory and of the node cells as is lent.
+fn evaluate_nodes(
+    call: Call,
     memory: &[u64],
     values: &mut [u64],
     counts: &mut [u32],
     nodes: &mut [u64],
 ) {
-    let value_cells = numbers[0] as usize;
-    let count_cells = numbers[1] as usize;
-    let node_cells = numbers[2] as usize;
-    let memory_cells = numbers[3] as usize;
+    let memory_cells = call.memory;
+    let node_cells = call.nodes;
+    if memory.len() < memory_cells {
+        return bad();
+    }
+    if nodes.len() < node_cells {
+        return bad();
+    }
+    let lent = &mut nodes[0..node_cells];
+    evaluate(call, &memory[0..memory_cells], values, counts, lent);
+}
+
+// On as much of the value cells and of the counts as is lent.
+fn evaluate_wires(
+    call: Call,
+    memory: &[u64],
+    values: &mut [u64],
+    counts: &mut [u32],
+    nodes: &mut [u64],
+) {
+    let value_cells = call.values;
+    let count_cells = call.counts;
     if values.len() < value_cells {
         return bad();
     }
     if counts.len() < count_cells {
         return bad();
     }
-    if nodes.len() < node_cells {
-        return bad();
-    }
-    if memory.len() < memory_cells {
-        return bad();
-    }
-    told(eval_circuit(
-        cells::word(numbers[4]),
-        cells::word(numbers[5]),
-        numbers[6],
-        numbers[7],
-        numbers[8],
-        &memory[0..memory_cells],
-        &mut values[0..value_cells],
-        &mut counts[0..count_cells],
-        &mut nodes[0..node_cells],
-    ));
+    let lent_values = &mut values[0..value_cells];
+    let lent_counts = &mut counts[0..count_cells];
+    evaluate_nodes(call, memory, lent_values, lent_counts, nodes);
 }
 
-fn fill_and_evaluate(
-    numbers: [u64; NUMBERS],
+fn say_cells(values: &[u64], counts: &[u32], nodes: &[u64]) {
+    cells::say_changed(b" v", values, cells::VALUE_CANARY);
+    cells::say_changed_counts(b" c", counts, cells::COUNT_CANARY);
+    cells::say_changed(b" n", nodes, cells::NODE_CANARY);
+    say::bytes(b"\n");
+}
+
+fn say_sums(values: &[u64], counts: &[u32], nodes: &[u64]) {
+    say::number(cells::sum(values));
+    say::number(cells::sum_counts(counts));
+    say::number(cells::sum(nodes));
+    say::bytes(b"\n");
+}
+
+fn say_buffers(letter: u8, values: &[u64], counts: &[u32], nodes: &[u64]) {
+    match letter {
+        b'e' => say_cells(values, counts, nodes),
+        _ => say_sums(values, counts, nodes),
+    }
+}
+
+fn ask(
+    letter: u8,
+    call: Call,
     memory: &[u64],
     values: &mut [u64],
     counts: &mut [u32],
@@ -71,40 +139,13 @@ fn fill_and_evaluate(
     cells::fill(values, cells::VALUE_CANARY);
     cells::fill_counts(counts, cells::COUNT_CANARY);
     cells::fill(nodes, cells::NODE_CANARY);
-    evaluate(numbers, memory, values, counts, nodes);
+    evaluate_wires(call, memory, values, counts, nodes);
+    say_buffers(letter, values, counts, nodes);
 }
 
-fn with_cells(
-    numbers: [u64; NUMBERS],
-    memory: &[u64],
-    values: &mut [u64],
-    counts: &mut [u32],
-    nodes: &mut [u64],
-) {
-    fill_and_evaluate(numbers, memory, values, counts, nodes);
-    cells::say_changed(b" v", values, cells::VALUE_CANARY);
-    cells::say_changed_counts(b" c", counts, cells::COUNT_CANARY);
-    cells::say_changed(b" n", nodes, cells::NODE_CANARY);
-    say::bytes(b"\n");
-}
-
-fn with_sums(
-    numbers: [u64; NUMBERS],
-    memory: &[u64],
-    values: &mut [u64],
-    counts: &mut [u32],
-    nodes: &mut [u64],
-) {
-    fill_and_evaluate(numbers, memory, values, counts, nodes);
-    say::number(cells::sum(values));
-    say::number(cells::sum_counts(counts));
-    say::number(cells::sum(nodes));
-    say::bytes(b"\n");
-}
-
-fn small(
+fn ask_small(
     letter: u8,
-    numbers: [u64; NUMBERS],
+    call: Call,
     memory: &[u64],
     values: &mut [u64],
     counts: &mut [u32],
@@ -119,13 +160,24 @@ fn small(
     if nodes.len() < SMALL_NODES {
         return bad();
     }
-    let small_values = &mut values[0..SMALL_VALUES];
-    let small_counts = &mut counts[0..SMALL_COUNTS];
-    let small_nodes = &mut nodes[0..SMALL_NODES];
-    if letter == b'e' {
-        return with_cells(numbers, memory, small_values, small_counts, small_nodes);
+    ask(
+        letter,
+        call,
+        memory,
+        &mut values[0..SMALL_VALUES],
+        &mut counts[0..SMALL_COUNTS],
+        &mut nodes[0..SMALL_NODES],
+    );
+}
+
+fn change(letter: u8, numbers: [u64; NUMBERS], memory: &mut [u64]) {
+    match letter {
+        b'B' => cells::fill(memory, cells::MEMORY_CANARY),
+        b'W' => cells::set_word(memory, numbers),
+        b'C' => cells::set(memory, numbers[0] as usize, numbers[1]),
+        b'P' => pattern::fill(memory, pattern::of(numbers)),
+        _ => bad(),
     }
-    with_sums(numbers, memory, small_values, small_counts, small_nodes);
 }
 
 pub fn answer(
@@ -137,12 +189,8 @@ pub fn answer(
     nodes: &mut [u64],
 ) {
     match letter {
-        b'B' => cells::fill(memory, cells::MEMORY_CANARY),
-        b'W' => cells::set_word(memory, numbers),
-        b'C' => cells::set(memory, numbers[0] as usize, numbers[1]),
-        b'P' => pattern::fill(memory, pattern::of(numbers)),
-        b'e' | b's' => small(letter, numbers, memory, values, counts, nodes),
-        b'l' => with_sums(numbers, memory, values, counts, nodes),
-        _ => bad(),
+        b'l' => ask(letter, call_of(numbers), memory, values, counts, nodes),
+        b'e' | b's' => ask_small(letter, call_of(numbers), memory, values, counts, nodes),
+        _ => change(letter, numbers, memory),
     }
 }

@@ -15,7 +15,7 @@ use crate::question::NUMBERS;
 use libc::STDIN_FILENO;
 
 // More than the questions take: input beyond it would not be read.
-const ROOM: usize = 524288;
+const ROOM: usize = 262144;
 
 // Room for two wires more than are allowed, and cells past it.
 const MEMORY: usize = 65600;
@@ -42,12 +42,16 @@ fn answer_all(
     }
 }
 
-fn main() {
-    let mut buf = [0u8; ROOM];
+fn answer_over_buffers(s: &[u8]) {
     let mut memory = [0u64; MEMORY];
     let mut values = [0u64; VALUES];
     let mut counts = [0u32; COUNTS];
     let mut nodes = [0u64; NODES];
+    answer_all(s, &mut memory, &mut values, &mut counts, &mut nodes);
+}
+
+fn main() {
+    let mut buf = [0u8; ROOM];
     let n = io::read_full(STDIN_FILENO, &mut buf);
-    answer_all(&buf[..n], &mut memory, &mut values, &mut counts, &mut nodes);
+    answer_over_buffers(&buf[..n]);
 }

@@ -1,10 +1,9 @@
 //! Circuits of the sizes that the Rust names, 6,044 and 13,912 wires, and of the largest, 32,768.
 
-use crate::circuits::{exact, Script};
-use crate::field::P;
+use crate::circuits::Script;
 use crate::pattern::Pattern;
-use crate::spoil::{Placed, Spoil};
-use crate::{Question, Said, LARGE, MEMORY};
+use crate::spoil::Spoil;
+use crate::{Question, Said, LARGE};
 
 /// num_vars and num_eval.
 const SIZES: [[u64; 2]; 5] = [
@@ -17,18 +16,6 @@ const SIZES: [[u64; 2]; 5] = [
 
 const UNIFORM: u64 = 1 << 20;
 
-fn place(script: &mut Script, pattern: Pattern) -> Placed {
-    script
-        .0
-        .extend([Question::Begin, Question::Pattern(pattern)]);
-    let mut memory = vec![P; MEMORY];
-    pattern.fill(&mut memory);
-    Placed {
-        memory,
-        setting: exact(pattern.at, pattern.vars, pattern.gates),
-    }
-}
-
 /// Every refusal; 8, 9 and 10 at the first, a middle and the last gate.
 fn spoils(num_vars: u64, num_eval: u64) -> Vec<Spoil> {
     let region = 2 * num_vars + num_eval;
@@ -37,10 +24,10 @@ fn spoils(num_vars: u64, num_eval: u64) -> Vec<Spoil> {
         Spoil::Vars2,
         Spoil::Gates3,
         Spoil::Pointer4,
-        Spoil::Memory5,
-        Spoil::Lent6(0),
-        Spoil::Lent6(1),
-        Spoil::Lent6(2),
+        Spoil::Memory5(1),
+        Spoil::Lent6(0, 1),
+        Spoil::Lent6(1, 1),
+        Spoil::Lent6(2, 1),
         Spoil::Cell7(0),
         Spoil::Cell7(region / 2),
         Spoil::Cell7(region - 1),
@@ -64,7 +51,7 @@ pub fn questions() -> Vec<Question> {
                 gates,
                 window,
             };
-            let placed = place(&mut script, pattern);
+            let placed = script.place_pattern(pattern);
             script.ask(Said::LargeSums, placed.setting);
             if window == UNIFORM {
                 script.ask(Said::LargeSums, placed.setting.with_lent(LARGE));
@@ -83,7 +70,7 @@ pub fn questions() -> Vec<Question> {
             gates,
             window: UNIFORM,
         };
-        let placed = place(&mut script, pattern);
+        let placed = script.place_pattern(pattern);
         script.ask(Said::LargeSums, placed.setting);
     }
     script.0
