@@ -27,8 +27,12 @@ mod processor {
     pub trait MemoryInterface {
         fn read_element(&mut self, ctx: ContextId, addr: Felt) -> Result<Felt, MemoryError>;
 
-        fn read_word(&mut self, ctx: ContextId, addr: Felt, clk: RowIndex)
-        -> Result<Word, MemoryError>;
+        fn read_word(
+            &mut self,
+            ctx: ContextId,
+            addr: Felt,
+            clk: RowIndex,
+        ) -> Result<Word, MemoryError>;
     }
 }
 
@@ -88,7 +92,14 @@ pub fn evaluate(
 ) -> Option<Result<CircuitEvaluation, String>> {
     let [ptr, num_vars, num_eval] = numbers.map(Felt::new_unchecked);
     let mut memory = FlatMemory(memory);
-    match eval_circuit_impl(ContextId(ctx), ptr, clk.into(), num_vars, num_eval, &mut memory) {
+    match eval_circuit_impl(
+        ContextId(ctx),
+        ptr,
+        clk.into(),
+        num_vars,
+        num_eval,
+        &mut memory,
+    ) {
         Ok(evaluation) => Some(Ok(evaluation)),
         Err(errors::AceEvalError::Ace(errors::AceError(text))) => Some(Err(text)),
         Err(errors::AceEvalError::Memory(_)) => None,

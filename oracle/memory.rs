@@ -9,8 +9,12 @@ pub struct FlatMemory<'a>(pub &'a [u64]);
 
 impl MemoryInterface for FlatMemory<'_> {
     fn read_element(&mut self, _: ContextId, addr: Felt) -> Result<Felt, MemoryError> {
-        let cell = self.0.get(addr.as_canonical_u64() as usize).filter(|&&cell| cell < P);
-        cell.map(|&cell| Felt::new_unchecked(cell)).ok_or(MemoryError)
+        let cell = self
+            .0
+            .get(addr.as_canonical_u64() as usize)
+            .filter(|&&cell| cell < P);
+        cell.map(|&cell| Felt::new_unchecked(cell))
+            .ok_or(MemoryError)
     }
 
     fn read_word(&mut self, ctx: ContextId, addr: Felt, _: RowIndex) -> Result<Word, MemoryError> {

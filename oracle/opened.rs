@@ -26,14 +26,29 @@ fn pair(v: QuadFelt) -> [Felt; 2] {
 
 /// "7 a READ node (ptr, id_0, v_0, id_1, v_1)."
 fn read_cells(node: &ReadNode) -> [Felt; 7] {
-    let ReadNode { ptr, id_0, v_0, id_1, v_1 } = *node;
+    let ReadNode {
+        ptr,
+        id_0,
+        v_0,
+        id_1,
+        v_1,
+    } = *node;
     let ([a, b], [c, d]) = (pair(v_0), pair(v_1));
     [ptr, id_0, a, b, id_1, c, d]
 }
 
 /// "11 an EVAL node (ptr, eval_op, id_0, v_0, id_1, v_1, id_2, v_2)."
 fn eval_cells(node: &EvalNode) -> [Felt; 11] {
-    let EvalNode { ptr, eval_op, id_0, v_0, id_1, v_1, id_2, v_2 } = *node;
+    let EvalNode {
+        ptr,
+        eval_op,
+        id_0,
+        v_0,
+        id_1,
+        v_1,
+        id_2,
+        v_2,
+    } = *node;
     let ([a, b], [c, d], [e, f]) = (pair(v_0), pair(v_1), pair(v_2));
     [ptr, eval_op, id_0, a, b, id_1, c, d, id_2, e, f]
 }
