@@ -69,10 +69,10 @@ pub enum Question {
     Evaluate(Said, Setting),
 }
 
-pub struct Buffers {
-    pub values: Vec<u64>,
-    pub counts: Vec<u32>,
-    pub nodes: Vec<u64>,
+struct Buffers {
+    values: Vec<u64>,
+    counts: Vec<u32>,
+    nodes: Vec<u64>,
 }
 
 struct Answer {
@@ -128,20 +128,18 @@ fn write_changes<T: Copy + PartialEq + fmt::Display>(
     Ok(())
 }
 
-fn answer(said: Said, setting: &Setting, memory: &[u64]) -> io::Result<Answer> {
+fn answer(said: Said, setting: &Setting, memory: &[u64]) -> Answer {
     let mut buffers = Buffers::canaries(match said {
         Said::Cells | Said::Sums => SMALL,
         Said::LargeSums => LARGE,
     });
     let lent = &mut buffers.lent(setting.lent);
     let told = evaluate(&setting.call, &memory[..setting.memory], lent);
-    #[cfg(oracle)]
-    judge::judge(setting, memory, &told, &buffers)?;
-    Ok(Answer {
+    Answer {
         told,
         said,
         buffers,
-    })
+    }
 }
 
 impl fmt::Display for Question {
@@ -212,6 +210,8 @@ fn write_questions() -> io::Result<()> {
 fn write_answers() -> io::Result<()> {
     let mut memory = Vec::new();
     let mut answers = Vec::new();
+    #[cfg(oracle)]
+    let mut rust = judge::Judge::default();
     for question in questions() {
         match question {
             Question::Begin => memory = (MEMORY_CANARY..).take(MEMORY).collect(),
@@ -219,12 +219,15 @@ fn write_answers() -> io::Result<()> {
             Question::Cell(at, cell) => memory[at] = cell,
             Question::Pattern(pattern) => pattern.fill(&mut memory),
             Question::Evaluate(said, setting) => {
-                answers.push(answer(said, &setting, &memory)?.to_string());
+                let answer = answer(said, &setting, &memory);
+                #[cfg(oracle)]
+                rust.judge(&setting, &memory, &answer)?;
+                answers.push(answer.to_string());
             }
         }
     }
     #[cfg(oracle)]
-    judge::report(answers.len());
+    rust.report();
     write_lines(answers.into_iter())
 }
 

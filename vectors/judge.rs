@@ -1,16 +1,13 @@
 //! Holds the answers to the Rust's own evaluation.
 
 use std::io;
-use std::sync::atomic::{AtomicUsize, Ordering};
 
 use oracle::Opened;
 
 use crate::field::P;
-use crate::steps::{needs, Header, Refusal};
+use crate::steps::{needs, Header};
 use crate::whole::Call;
-use crate::{Buffers, Setting};
-
-static JUDGED: AtomicUsize = AtomicUsize::new(0);
+use crate::{Answer, Buffers, Setting};
 
 /// How each of the Rust's errors begins, and the numbers that it stands for: the Rust does not tell
 /// which operand is missing.
@@ -57,47 +54,53 @@ fn is_same(opened: &Opened, header: &Header, buffers: &Buffers) -> bool {
         && buffers.nodes.starts_with(&opened.nodes)
 }
 
-pub fn judge(
-    setting: &Setting,
-    memory: &[u64],
-    told: &Result<Header, Refusal>,
-    buffers: &Buffers,
-) -> io::Result<()> {
-    let Call {
-        ctx,
-        clk,
-        ptr,
-        num_vars,
-        num_eval,
-    } = setting.call;
-    let numbers = [ptr, num_vars, num_eval];
-    if numbers.iter().any(|&number| number >= P) {
-        return Ok(());
-    }
-    let memory = &memory[..setting.memory];
-    let rust = oracle::evaluate(ctx, clk, numbers, memory);
-    // The Rust looks at the counts before memory, so those that it refuses are always judged.
-    let refused = match &rust {
-        Some(Err(text)) => numbers_of(text),
-        _ => &[],
-    };
-    let is_of_counts = refused.first().is_some_and(|&number| number <= 3);
-    if !is_of_counts && !is_in_domain(setting, memory) {
-        return Ok(());
-    }
-    JUDGED.fetch_add(1, Ordering::Relaxed);
-    match (rust, told) {
-        (Some(Ok(evaluation)), Ok(header)) if is_same(&evaluation.opened(), header, buffers) => {
-            Ok(())
-        }
-        (Some(Ok(_)), _) => Err(disagreement(setting, "it accepts")),
-        (Some(Err(_)), Err(refusal)) if refused.contains(&refusal.number) => Ok(()),
-        (Some(Err(text)), _) => Err(disagreement(setting, &text)),
-        (None, _) => Err(disagreement(setting, "it meets a bad address")),
-    }
+#[derive(Default)]
+pub struct Judge {
+    cases: usize,
+    judged: usize,
 }
 
-pub fn report(cases: usize) {
-    let judged = JUDGED.load(Ordering::Relaxed);
-    eprintln!("evaluations: of {cases} cases the Rust judged {judged}, and agrees");
+impl Judge {
+    pub fn judge(&mut self, setting: &Setting, memory: &[u64], answer: &Answer) -> io::Result<()> {
+        self.cases += 1;
+        let Call {
+            ctx,
+            clk,
+            ptr,
+            num_vars,
+            num_eval,
+        } = setting.call;
+        let numbers = [ptr, num_vars, num_eval];
+        if numbers.iter().any(|&number| number >= P) {
+            return Ok(());
+        }
+        let memory = &memory[..setting.memory];
+        let rust = oracle::evaluate(ctx, clk, numbers, memory);
+        let refused = match &rust {
+            Some(Err(text)) => numbers_of(text),
+            _ => &[],
+        };
+        // The Rust looks at the counts before memory, so those that it refuses are always judged.
+        let is_of_counts = refused.first().is_some_and(|&number| number <= 3);
+        if !is_of_counts && !is_in_domain(setting, memory) {
+            return Ok(());
+        }
+        self.judged += 1;
+        match (rust, &answer.told) {
+            (Some(Ok(evaluation)), Ok(header))
+                if is_same(&evaluation.opened(), header, &answer.buffers) =>
+            {
+                Ok(())
+            }
+            (Some(Ok(_)), _) => Err(disagreement(setting, "it accepts")),
+            (Some(Err(_)), Err(refusal)) if refused.contains(&refusal.number) => Ok(()),
+            (Some(Err(text)), _) => Err(disagreement(setting, &text)),
+            (None, _) => Err(disagreement(setting, "it meets a bad address")),
+        }
+    }
+
+    pub fn report(&self) {
+        let Judge { cases, judged } = self;
+        eprintln!("evaluations: of {cases} cases the Rust judged {judged}, and agrees");
+    }
 }

@@ -1,6 +1,6 @@
 //! Refusals by hand: what is asked, and gates that cannot be done. Cells or sums of the buffers are said.
 
-use crate::circuits::{gate, listing, sixteen, Circuit, Script, ADD, LAST_ID, MUL, NEAR_P, SUB};
+use crate::circuits::{gate, listing, sixteen, Circuit, Script, ADD, LAST_ID, MUL, NEAR_P};
 use crate::field::P;
 use crate::spoil::{Placed, Spoil};
 use crate::{Question, Said, SMALL};
@@ -102,7 +102,7 @@ fn of_the_listing(script: &mut Script) {
     script.evaluate(&circuit.with_gate(3, 2_305_843_011_361_177_601));
 }
 
-/// The same counts over memory that is enough for the small ones alone.
+/// Memory is enough for the small ones alone.
 fn of_counts(script: &mut Script) {
     script.place(&sixteen(), 0);
     for [num_vars, num_eval] in COUNTS {
@@ -185,29 +185,17 @@ fn of_gates(script: &mut Script) {
             script.cell(at, gate(opcode, own + 1, own + 1));
             script.cells(circuit.at(0));
         }
-        for id in [own + 1, num_wires - 1] {
-            for word in [
-                gate(SUB, id, own + 1),
-                gate(ADD, own + 1, id),
-                gate(MUL, id, id),
-            ] {
-                script.cell(at, word);
-                script.ask(Said::Sums, circuit.at(0));
-            }
-        }
-        for id in [
+        let made = [own + 1, num_wires - 1];
+        let others = [
             own,
             own.saturating_sub(1),
             num_wires,
             num_wires + 1,
             LAST_ID,
-        ] {
-            for word in [
-                gate(SUB, id, own + 1),
-                gate(ADD, own + 1, id),
-                gate(MUL, id, id),
-            ] {
-                script.cell(at, word);
+        ];
+        for id in made.into_iter().chain(others) {
+            for (left, right) in [(id, own + 1), (own + 1, id), (id, id)] {
+                script.cell(at, gate(MUL, left, right));
                 script.ask(Said::Sums, circuit.at(0));
             }
         }
