@@ -119,10 +119,8 @@ impl Script {
     /// Memory that holds the circuit at an address, and no other element.
     pub fn place(&mut self, circuit: &Circuit, ptr: u64) {
         self.0.push(Question::Begin);
-        let addresses = (ptr as usize..).step_by(4);
-        for (at, word) in addresses.zip(circuit.cells().chunks_exact(4)) {
-            self.0
-                .push(Question::Word(at, [word[0], word[1], word[2], word[3]]));
+        for (at, &cell) in (ptr..).zip(&circuit.cells()) {
+            self.cell(at, cell);
         }
     }
 

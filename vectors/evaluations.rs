@@ -63,7 +63,6 @@ pub struct Setting {
 #[derive(Clone, Copy)]
 pub enum Question {
     Begin,
-    Word(usize, [u64; 4]),
     Cell(usize, u64),
     Pattern(Pattern),
     Evaluate(Said, Setting),
@@ -146,7 +145,6 @@ impl fmt::Display for Question {
     fn fmt(&self, f: &mut fmt::Formatter<'_>) -> fmt::Result {
         let (letter, numbers) = match *self {
             Question::Begin => ('B', Vec::new()),
-            Question::Word(at, [a, b, c, d]) => ('W', vec![at as u64, a, b, c, d]),
             Question::Cell(at, cell) => ('C', vec![at as u64, cell]),
             Question::Pattern(p) => ('P', vec![p.seed, p.at, p.vars, p.gates, p.window]),
             Question::Evaluate(said, Setting { lent, memory, call }) => {
@@ -215,7 +213,6 @@ fn write_answers() -> io::Result<()> {
     for question in questions() {
         match question {
             Question::Begin => memory = (MEMORY_CANARY..).take(MEMORY).collect(),
-            Question::Word(at, word) => memory[at..][..4].copy_from_slice(&word),
             Question::Cell(at, cell) => memory[at] = cell,
             Question::Pattern(pattern) => pattern.fill(&mut memory),
             Question::Evaluate(said, setting) => {

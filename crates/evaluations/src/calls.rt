@@ -1,4 +1,8 @@
 // The questions, each put to memory and the buffers.
+use crate::COUNTS;
+use crate::MEMORY;
+use crate::NODES;
+use crate::VALUES;
 use crate::cells;
 use crate::pattern;
 use crate::question::NUMBERS;
@@ -6,12 +10,27 @@ use crate::say;
 use eval_circuit::eval_circuit;
 use trace::OutputAnswer;
 
-// What `e` and `s` have of the buffers.
-const SMALL_VALUES: usize = 72;
+// The cells of each buffer that are canaries before an evaluation, and of which is said what became.
+struct Sizes {
+    values: usize,
+    counts: usize,
+    nodes: usize,
+}
 
-const SMALL_COUNTS: usize = 36;
-
-const SMALL_NODES: usize = 384;
+fn sizes_of(letter: u8) -> Sizes {
+    if letter == b'l' {
+        return Sizes {
+            values: VALUES,
+            counts: COUNTS,
+            nodes: NODES,
+        };
+    }
+    Sizes {
+        values: 72,
+        counts: 36,
+        nodes: 384,
+    }
+}
 
 // How many cells are lent of each, and what is handed to the evaluation.
 pub struct Call {
@@ -107,25 +126,25 @@ fn evaluate_wires(
     evaluate_nodes(call, memory, lent_values, lent_counts, nodes);
 }
 
-fn say_cells(values: &[u64], counts: &[u32], nodes: &[u64]) {
-    cells::say_changed(b" v", values, cells::VALUE_CANARY);
-    cells::say_changed_counts(b" c", counts, cells::COUNT_CANARY);
-    cells::say_changed(b" n", nodes, cells::NODE_CANARY);
-    say::bytes(b"\n");
+fn say_cells(sizes: Sizes, values: &[u64], counts: &[u32], nodes: &[u64]) {
+    cells::say_changed(b" v", values, cells::VALUE_CANARY, sizes.values);
+    cells::say_changed_counts(b" c", counts, cells::COUNT_CANARY, sizes.counts);
+    cells::say_changed(b" n", nodes, cells::NODE_CANARY, sizes.nodes);
 }
 
-fn say_sums(values: &[u64], counts: &[u32], nodes: &[u64]) {
-    say::number(cells::sum(values));
-    say::number(cells::sum_counts(counts));
-    say::number(cells::sum(nodes));
-    say::bytes(b"\n");
+fn say_sums(sizes: Sizes, values: &[u64], counts: &[u32], nodes: &[u64]) {
+    say::number(cells::sum(values, sizes.values));
+    say::number(cells::sum_counts(counts, sizes.counts));
+    say::number(cells::sum(nodes, sizes.nodes));
 }
 
 fn say_buffers(letter: u8, values: &[u64], counts: &[u32], nodes: &[u64]) {
+    let sizes = sizes_of(letter);
     match letter {
-        b'e' => say_cells(values, counts, nodes),
-        _ => say_sums(values, counts, nodes),
+        b'e' => say_cells(sizes, values, counts, nodes),
+        _ => say_sums(sizes, values, counts, nodes),
     }
+    say::bytes(b"\n");
 }
 
 fn ask(
@@ -136,44 +155,17 @@ fn ask(
     counts: &mut [u32],
     nodes: &mut [u64],
 ) {
-    cells::fill(values, cells::VALUE_CANARY);
-    cells::fill_counts(counts, cells::COUNT_CANARY);
-    cells::fill(nodes, cells::NODE_CANARY);
+    let sizes = sizes_of(letter);
+    cells::fill(values, cells::VALUE_CANARY, sizes.values);
+    cells::fill_counts(counts, cells::COUNT_CANARY, sizes.counts);
+    cells::fill(nodes, cells::NODE_CANARY, sizes.nodes);
     evaluate_wires(call, memory, values, counts, nodes);
     say_buffers(letter, values, counts, nodes);
 }
 
-fn ask_small(
-    letter: u8,
-    call: Call,
-    memory: &[u64],
-    values: &mut [u64],
-    counts: &mut [u32],
-    nodes: &mut [u64],
-) {
-    if values.len() < SMALL_VALUES {
-        return bad();
-    }
-    if counts.len() < SMALL_COUNTS {
-        return bad();
-    }
-    if nodes.len() < SMALL_NODES {
-        return bad();
-    }
-    ask(
-        letter,
-        call,
-        memory,
-        &mut values[0..SMALL_VALUES],
-        &mut counts[0..SMALL_COUNTS],
-        &mut nodes[0..SMALL_NODES],
-    );
-}
-
 fn change(letter: u8, numbers: [u64; NUMBERS], memory: &mut [u64]) {
     match letter {
-        b'B' => cells::fill(memory, cells::MEMORY_CANARY),
-        b'W' => cells::set_word(memory, numbers),
+        b'B' => cells::fill(memory, cells::MEMORY_CANARY, MEMORY),
         b'C' => cells::set(memory, numbers[0] as usize, numbers[1]),
         b'P' => pattern::fill(memory, pattern::of(numbers)),
         _ => bad(),
@@ -189,8 +181,7 @@ pub fn answer(
     nodes: &mut [u64],
 ) {
     match letter {
-        b'l' => ask(letter, call_of(numbers), memory, values, counts, nodes),
-        b'e' | b's' => ask_small(letter, call_of(numbers), memory, values, counts, nodes),
+        b'e' | b's' | b'l' => ask(letter, call_of(numbers), memory, values, counts, nodes),
         _ => change(letter, numbers, memory),
     }
 }

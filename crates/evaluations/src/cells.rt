@@ -1,9 +1,7 @@
 // Canaries, and what becomes of them.
-use crate::question::NUMBERS;
 use crate::say;
 use std::num::wrapping_add_u32;
 use std::num::wrapping_add_u64;
-use std::num::wrapping_add_usize;
 
 // The first canary of memory and of each buffer; every cell's is one more than that of the cell before.
 // None is what an evaluation writes, or an element.
@@ -36,52 +34,66 @@ pub fn set(cells: &mut [u64], at: usize, cell: u64) {
     }
 }
 
-pub fn set_word(cells: &mut [u64], numbers: [u64; NUMBERS]) {
-    let at = numbers[0] as usize;
-    set(cells, at, numbers[1]);
-    set(cells, wrapping_add_usize(at, 1), numbers[2]);
-    set(cells, wrapping_add_usize(at, 2), numbers[3]);
-    set(cells, wrapping_add_usize(at, 3), numbers[4]);
+fn set_count(counts: &mut [u32], at: usize, count: u32) {
+    if at < counts.len() {
+        counts[at] = count;
+    }
 }
 
-pub fn fill(cells: &mut [u64], first: u64) {
+// A cell that is not there is 0.
+fn get(cells: &[u64], at: usize) -> u64 {
+    if at < cells.len() {
+        return cells[at];
+    }
+    0
+}
+
+fn get_count(counts: &[u32], at: usize) -> u32 {
+    if at < counts.len() {
+        return counts[at];
+    }
+    0
+}
+
+pub fn fill(cells: &mut [u64], first: u64, size: usize) {
     let mut i: usize = 0;
     let mut canary = first;
-    while i < cells.len() {
-        cells[i] = canary;
+    while i < size {
+        set(cells, i, canary);
         canary = wrapping_add_u64(canary, 1);
         i += 1;
     }
 }
 
-pub fn fill_counts(counts: &mut [u32], first: u32) {
+pub fn fill_counts(counts: &mut [u32], first: u32, size: usize) {
     let mut i: usize = 0;
     let mut canary = first;
-    while i < counts.len() {
-        counts[i] = canary;
+    while i < size {
+        set_count(counts, i, canary);
         canary = wrapping_add_u32(canary, 1);
         i += 1;
     }
 }
 
 // Each run of cells that are no canaries: its first place, and the cells.
-pub fn say_changed(letter: &[u8], cells: &[u64], first: u64) {
+pub fn say_changed(letter: &[u8], cells: &[u64], first: u64, size: usize) {
     let mut i: usize = 0;
     let mut canary = first;
     let mut is_after_change = false;
-    while i < cells.len() {
-        is_after_change = say::changed(letter, i, cells[i], canary, is_after_change);
+    while i < size {
+        is_after_change = say::changed(letter, i, get(cells, i), canary, is_after_change);
         canary = wrapping_add_u64(canary, 1);
         i += 1;
     }
 }
 
-pub fn say_changed_counts(letter: &[u8], counts: &[u32], first: u32) {
+pub fn say_changed_counts(letter: &[u8], counts: &[u32], first: u32, size: usize) {
     let mut i: usize = 0;
     let mut canary = first;
     let mut is_after_change = false;
-    while i < counts.len() {
-        is_after_change = say::changed_count(letter, i, counts[i], canary, is_after_change);
+    while i < size {
+        let count = get_count(counts, i);
+        is_after_change = say::changed_count(letter, i, count, canary, is_after_change);
         canary = wrapping_add_u32(canary, 1);
         i += 1;
     }
@@ -100,21 +112,21 @@ fn add_count(sum: u64, count: u32) -> u64 {
 }
 
 // A sum that tells cells and their places.
-pub fn sum(cells: &[u64]) -> u64 {
+pub fn sum(cells: &[u64], size: usize) -> u64 {
     let mut sum: u64 = 0;
     let mut i: usize = 0;
-    while i < cells.len() {
-        sum = add(sum, cells[i]);
+    while i < size {
+        sum = add(sum, get(cells, i));
         i += 1;
     }
     sum
 }
 
-pub fn sum_counts(counts: &[u32]) -> u64 {
+pub fn sum_counts(counts: &[u32], size: usize) -> u64 {
     let mut sum: u64 = 0;
     let mut i: usize = 0;
-    while i < counts.len() {
-        sum = add_count(sum, counts[i]);
+    while i < size {
+        sum = add_count(sum, get_count(counts, i));
         i += 1;
     }
     sum

@@ -1,10 +1,10 @@
 // Answers questions on whole evaluation, a question to a line: a letter and its numbers, each after one
-// space. A capital letter changes memory and is not answered: `B` makes every cell a canary, `W` sets a
-// word, `C` a cell, and `P` fills a region with a pattern. `e`, `s` and `l` evaluate over buffers whose
-// cells are canaries: how many value cells, counts, node cells and cells of memory are lent, then ctx,
-// clk, ptr, num_vars and num_eval. Each is answered by a line that has the answer and, of `e`, every cell
-// that is no canary any more, past the lent part too; of `s` and `l` a sum of each buffer, of `l` at full
-// length. vectors/evaluations.rs makes the questions, and the answers that this program has to write.
+// space. A capital letter changes memory and is not answered: `B` makes every cell a canary, `C` sets a
+// cell, and `P` fills a region with a pattern. `e`, `s` and `l` evaluate over buffers whose cells are
+// canaries: how many value cells, counts, node cells and cells of memory are lent, then ctx, clk, ptr,
+// num_vars and num_eval. Each is answered by a line that has the answer and, of `e`, every cell that is
+// no canary any more, past the lent part too; of `s` and `l` a sum of each buffer, of `l` at full length.
+// vectors/evaluations.rs makes the questions, and the answers that this program has to write.
 mod calls;
 mod cells;
 mod pattern;
@@ -15,7 +15,7 @@ use crate::question::NUMBERS;
 use libc::STDIN_FILENO;
 
 // More than the questions take: input beyond it would not be read.
-const ROOM: usize = 262144;
+const ROOM: usize = 196608;
 
 // Room for two wires more than are allowed, and cells past it.
 const MEMORY: usize = 65600;

@@ -40,7 +40,7 @@ fn with_digit(value: u64, c: u8) -> Value {
 fn numbers_of(letter: u8) -> usize {
     match letter {
         b'B' => 0,
-        b'W' | b'P' => 5,
+        b'P' => 5,
         b'C' => 2,
         b'e' | b's' | b'l' => 9,
         _ => NUMBERS + 1,

@@ -7,19 +7,16 @@ use Rattle.evaluations.proofs.cells.fill.Statement.{statement}
 use Rattle.evaluations.proofs.cells.fill.Tie as tie
 
 abbrev Inv-loop : tie.InvT-loop
-Inv-loop cells₀ first i₀ canary₀ cells i canary = length cells ≡ length cells₀
+Inv-loop cells₀ first size i₀ canary₀ cells i canary = length cells ≡ length cells₀
 
 abbrev μ-loop : tie.MeasureT-loop
-μ-loop cells₀ first i₀ canary₀ cells i canary = length cells₀ - i
+μ-loop cells₀ first size i₀ canary₀ cells i canary = size - i
 
 loop-holds : tie.Need-loop-holds Inv-loop μ-loop
 loop-holds c = search needs
 
-mul-cells : tie.Need-mul-cells Inv-loop μ-loop
-mul-cells c = search needs
-
-slice-write-cells : tie.Need-slice-write-cells Inv-loop μ-loop
-slice-write-cells c = search needs
+set-requires : tie.Need-set-requires Inv-loop μ-loop
+set-requires c κs = search needs
 
 wrapping-add-u64-requires : tie.Need-wrapping-add-u64-requires Inv-loop μ-loop
 wrapping-add-u64-requires c κs = search needs
@@ -46,8 +43,7 @@ fill-spec =
     Inv-loop
     μ-loop
     loop-holds
-    mul-cells
-    slice-write-cells
+    set-requires
     wrapping-add-u64-requires
     add-i
     loop-less

@@ -7,19 +7,16 @@ use Rattle.evaluations.proofs.cells.fill_counts.Statement.{statement}
 use Rattle.evaluations.proofs.cells.fill_counts.Tie as tie
 
 abbrev Inv-loop : tie.InvT-loop
-Inv-loop counts₀ first i₀ canary₀ counts i canary = length counts ≡ length counts₀
+Inv-loop counts₀ first size i₀ canary₀ counts i canary = length counts ≡ length counts₀
 
 abbrev μ-loop : tie.MeasureT-loop
-μ-loop counts₀ first i₀ canary₀ counts i canary = length counts₀ - i
+μ-loop counts₀ first size i₀ canary₀ counts i canary = size - i
 
 loop-holds : tie.Need-loop-holds Inv-loop μ-loop
 loop-holds c = search needs
 
-mul-counts : tie.Need-mul-counts Inv-loop μ-loop
-mul-counts c = search needs
-
-slice-write-counts : tie.Need-slice-write-counts Inv-loop μ-loop
-slice-write-counts c = search needs
+set-count-requires : tie.Need-set-count-requires Inv-loop μ-loop
+set-count-requires c κs = search needs
 
 wrapping-add-u32-requires : tie.Need-wrapping-add-u32-requires Inv-loop μ-loop
 wrapping-add-u32-requires c κs = search needs
@@ -46,8 +43,7 @@ fill-counts-spec =
     Inv-loop
     μ-loop
     loop-holds
-    mul-counts
-    slice-write-counts
+    set-count-requires
     wrapping-add-u32-requires
     add-i
     loop-less

@@ -1,24 +1,20 @@
--- `evaluations::cells::say_changed` is safe and ends: the place rises up to the length. Assumes nothing.
+-- `evaluations::cells::say_changed` is safe and ends: the place rises up to the size. Assumes nothing.
 use Prim.Native.Nat.{_-_}
-use lib.ListN.{length}
 use borrow.Author.Needs.{needs}
 use Rattle.evaluations.proofs.cells.say_changed.Statement.{statement}
 use Rattle.evaluations.proofs.cells.say_changed.Tie as tie
 
 abbrev Inv-loop : tie.InvT-loop
-Inv-loop letter cells first i₀ canary₀ is-after-change₀ i canary is-after-change = Unit {0}
+Inv-loop letter cells first size i₀ canary₀ is-after-change₀ i canary is-after-change = Unit {0}
 
 abbrev μ-loop : tie.MeasureT-loop
-μ-loop letter cells first i₀ canary₀ is-after-change₀ i canary is-after-change = length cells - i
+μ-loop letter cells first size i₀ canary₀ is-after-change₀ i canary is-after-change = size - i
 
 loop-holds : tie.Need-loop-holds Inv-loop μ-loop
 loop-holds c = search needs
 
-mul-changed : tie.Need-mul-changed Inv-loop μ-loop
-mul-changed c = search needs
-
-shared-slice-read-changed : tie.Need-shared-slice-read-changed Inv-loop μ-loop
-shared-slice-read-changed c = search needs
+get-requires : tie.Need-get-requires Inv-loop μ-loop
+get-requires c κs = search needs
 
 changed-requires : tie.Need-changed-requires Inv-loop μ-loop
 changed-requires c κs = search needs
@@ -45,8 +41,7 @@ say-changed-spec =
     Inv-loop
     μ-loop
     loop-holds
-    mul-changed
-    shared-slice-read-changed
+    get-requires
     changed-requires
     wrapping-add-u64-requires
     add-i

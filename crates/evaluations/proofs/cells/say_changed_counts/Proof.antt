@@ -1,24 +1,20 @@
--- `evaluations::cells::say_changed_counts` is safe and ends: the place rises up to the length. Assumes nothing.
+-- `evaluations::cells::say_changed_counts` is safe and ends: the place rises up to the size. Assumes nothing.
 use Prim.Native.Nat.{_-_}
-use lib.ListN.{length}
 use borrow.Author.Needs.{needs}
 use Rattle.evaluations.proofs.cells.say_changed_counts.Statement.{statement}
 use Rattle.evaluations.proofs.cells.say_changed_counts.Tie as tie
 
 abbrev Inv-loop : tie.InvT-loop
-Inv-loop letter counts first i₀ canary₀ is-after-change₀ i canary is-after-change = Unit {0}
+Inv-loop letter counts first size i₀ canary₀ is-after-change₀ i canary is-after-change = Unit {0}
 
 abbrev μ-loop : tie.MeasureT-loop
-μ-loop letter counts first i₀ canary₀ is-after-change₀ i canary is-after-change = length counts - i
+μ-loop letter counts first size i₀ canary₀ is-after-change₀ i canary is-after-change = size - i
 
 loop-holds : tie.Need-loop-holds Inv-loop μ-loop
 loop-holds c = search needs
 
-mul-changed-count : tie.Need-mul-changed-count Inv-loop μ-loop
-mul-changed-count c = search needs
-
-shared-slice-read-changed-count : tie.Need-shared-slice-read-changed-count Inv-loop μ-loop
-shared-slice-read-changed-count c = search needs
+get-count-requires : tie.Need-get-count-requires Inv-loop μ-loop
+get-count-requires c κs = search needs
 
 changed-count-requires : tie.Need-changed-count-requires Inv-loop μ-loop
 changed-count-requires c κs = search needs
@@ -45,8 +41,7 @@ say-changed-counts-spec =
     Inv-loop
     μ-loop
     loop-holds
-    mul-changed-count
-    shared-slice-read-changed-count
+    get-count-requires
     changed-count-requires
     wrapping-add-u32-requires
     add-i

@@ -1,24 +1,20 @@
--- `evaluations::cells::sum` is safe and ends: the place rises up to the length. Assumes nothing.
+-- `evaluations::cells::sum` is safe and ends: the place rises up to the size. Assumes nothing.
 use Prim.Native.Nat.{_-_}
-use lib.ListN.{length}
 use borrow.Author.Needs.{needs}
 use Rattle.evaluations.proofs.cells.sum.Statement.{statement}
 use Rattle.evaluations.proofs.cells.sum.Tie as tie
 
 abbrev Inv-loop : tie.InvT-loop
-Inv-loop cells sum₀ i₀ sum i = Unit {0}
+Inv-loop cells size sum₀ i₀ sum i = Unit {0}
 
 abbrev μ-loop : tie.MeasureT-loop
-μ-loop cells sum₀ i₀ sum i = length cells - i
+μ-loop cells size sum₀ i₀ sum i = size - i
 
 loop-holds : tie.Need-loop-holds Inv-loop μ-loop
 loop-holds c = search needs
 
-mul-add : tie.Need-mul-add Inv-loop μ-loop
-mul-add c = search needs
-
-shared-slice-read-add : tie.Need-shared-slice-read-add Inv-loop μ-loop
-shared-slice-read-add c = search needs
+get-requires : tie.Need-get-requires Inv-loop μ-loop
+get-requires c κs = search needs
 
 add-requires : tie.Need-add-requires Inv-loop μ-loop
 add-requires c κs = search needs
@@ -42,8 +38,7 @@ sum-spec =
     Inv-loop
     μ-loop
     loop-holds
-    mul-add
-    shared-slice-read-add
+    get-requires
     add-requires
     add-i
     loop-less

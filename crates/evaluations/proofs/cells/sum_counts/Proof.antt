@@ -1,24 +1,20 @@
--- `evaluations::cells::sum_counts` is safe and ends: the place rises up to the length. Assumes nothing.
+-- `evaluations::cells::sum_counts` is safe and ends: the place rises up to the size. Assumes nothing.
 use Prim.Native.Nat.{_-_}
-use lib.ListN.{length}
 use borrow.Author.Needs.{needs}
 use Rattle.evaluations.proofs.cells.sum_counts.Statement.{statement}
 use Rattle.evaluations.proofs.cells.sum_counts.Tie as tie
 
 abbrev Inv-loop : tie.InvT-loop
-Inv-loop counts sum₀ i₀ sum i = Unit {0}
+Inv-loop counts size sum₀ i₀ sum i = Unit {0}
 
 abbrev μ-loop : tie.MeasureT-loop
-μ-loop counts sum₀ i₀ sum i = length counts - i
+μ-loop counts size sum₀ i₀ sum i = size - i
 
 loop-holds : tie.Need-loop-holds Inv-loop μ-loop
 loop-holds c = search needs
 
-mul-add-count : tie.Need-mul-add-count Inv-loop μ-loop
-mul-add-count c = search needs
-
-shared-slice-read-add-count : tie.Need-shared-slice-read-add-count Inv-loop μ-loop
-shared-slice-read-add-count c = search needs
+get-count-requires : tie.Need-get-count-requires Inv-loop μ-loop
+get-count-requires c κs = search needs
 
 add-count-requires : tie.Need-add-count-requires Inv-loop μ-loop
 add-count-requires c κs = search needs
@@ -42,8 +38,7 @@ sum-counts-spec =
     Inv-loop
     μ-loop
     loop-holds
-    mul-add-count
-    shared-slice-read-add-count
+    get-count-requires
     add-count-requires
     add-i
     loop-less
