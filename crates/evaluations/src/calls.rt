@@ -1,0 +1,187 @@
+// The questions, each put to memory and the buffers.
+use crate::COUNTS;
+use crate::MEMORY;
+use crate::NODES;
+use crate::VALUES;
+use crate::cells;
+use crate::pattern;
+use crate::question::NUMBERS;
+use crate::say;
+use eval_circuit::eval_circuit;
+use trace::OutputAnswer;
+
+// The cells of each buffer that are canaries before an evaluation, and of which is said what became.
+struct Sizes {
+    values: usize,
+    counts: usize,
+    nodes: usize,
+}
+
+fn sizes_of(letter: u8) -> Sizes {
+    if letter == b'l' {
+        return Sizes {
+            values: VALUES,
+            counts: COUNTS,
+            nodes: NODES,
+        };
+    }
+    Sizes {
+        values: 72,
+        counts: 36,
+        nodes: 384,
+    }
+}
+
+// How many cells are lent of each, and what is handed to the evaluation.
+pub struct Call {
+    pub values: usize,
+    pub counts: usize,
+    pub nodes: usize,
+    pub memory: usize,
+    pub ctx: u32,
+    pub clk: u32,
+    pub ptr: u64,
+    pub num_vars: u64,
+    pub num_eval: u64,
+}
+
+fn call_of(numbers: [u64; NUMBERS]) -> Call {
+    Call {
+        values: numbers[0] as usize,
+        counts: numbers[1] as usize,
+        nodes: numbers[2] as usize,
+        memory: numbers[3] as usize,
+        ctx: cells::word(numbers[4]),
+        clk: cells::word(numbers[5]),
+        ptr: numbers[6],
+        num_vars: numbers[7],
+        num_eval: numbers[8],
+    }
+}
+
+fn bad() {
+    say::bytes(b"bad");
+}
+
+fn told(answer: OutputAnswer) {
+    match answer {
+        OutputAnswer::Zero(header) => say::header(header),
+        OutputAnswer::Refused(number, place) => say::refusal(number, place),
+    }
+}
+
+fn evaluate(call: Call, memory: &[u64], values: &mut [u64], counts: &mut [u32], nodes: &mut [u64]) {
+    let answer = eval_circuit(
+        call.ctx,
+        call.clk,
+        call.ptr,
+        call.num_vars,
+        call.num_eval,
+        memory,
+        values,
+        counts,
+        nodes,
+    );
+    told(answer);
+}
+
+// On as much of memory and of the node cells as is lent.
+fn evaluate_nodes(
+    call: Call,
+    memory: &[u64],
+    values: &mut [u64],
+    counts: &mut [u32],
+    nodes: &mut [u64],
+) {
+    let memory_cells = call.memory;
+    let node_cells = call.nodes;
+    if memory.len() < memory_cells {
+        return bad();
+    }
+    if nodes.len() < node_cells {
+        return bad();
+    }
+    let lent = &mut nodes[0..node_cells];
+    evaluate(call, &memory[0..memory_cells], values, counts, lent);
+}
+
+// On as much of the value cells and of the counts as is lent.
+fn evaluate_wires(
+    call: Call,
+    memory: &[u64],
+    values: &mut [u64],
+    counts: &mut [u32],
+    nodes: &mut [u64],
+) {
+    let value_cells = call.values;
+    let count_cells = call.counts;
+    if values.len() < value_cells {
+        return bad();
+    }
+    if counts.len() < count_cells {
+        return bad();
+    }
+    let lent_values = &mut values[0..value_cells];
+    let lent_counts = &mut counts[0..count_cells];
+    evaluate_nodes(call, memory, lent_values, lent_counts, nodes);
+}
+
+fn say_cells(sizes: Sizes, values: &[u64], counts: &[u32], nodes: &[u64]) {
+    cells::say_changed(b" v", values, cells::VALUE_CANARY, sizes.values);
+    cells::say_changed_counts(b" c", counts, cells::COUNT_CANARY, sizes.counts);
+    cells::say_changed(b" n", nodes, cells::NODE_CANARY, sizes.nodes);
+}
+
+fn say_sums(sizes: Sizes, values: &[u64], counts: &[u32], nodes: &[u64]) {
+    say::number(cells::sum(values, sizes.values));
+    say::number(cells::sum_counts(counts, sizes.counts));
+    say::number(cells::sum(nodes, sizes.nodes));
+}
+
+fn say_buffers(letter: u8, values: &[u64], counts: &[u32], nodes: &[u64]) {
+    let sizes = sizes_of(letter);
+    match letter {
+        b'e' => say_cells(sizes, values, counts, nodes),
+        _ => say_sums(sizes, values, counts, nodes),
+    }
+    say::bytes(b"\n");
+}
+
+fn ask(
+    letter: u8,
+    call: Call,
+    memory: &[u64],
+    values: &mut [u64],
+    counts: &mut [u32],
+    nodes: &mut [u64],
+) {
+    let sizes = sizes_of(letter);
+    cells::fill(values, cells::VALUE_CANARY, sizes.values);
+    cells::fill_counts(counts, cells::COUNT_CANARY, sizes.counts);
+    cells::fill(nodes, cells::NODE_CANARY, sizes.nodes);
+    evaluate_wires(call, memory, values, counts, nodes);
+    say_buffers(letter, values, counts, nodes);
+}
+
+fn change(letter: u8, numbers: [u64; NUMBERS], memory: &mut [u64]) {
+    match letter {
+        b'B' => cells::fill(memory, cells::MEMORY_CANARY, MEMORY),
+        b'C' => cells::set(memory, numbers[0] as usize, numbers[1]),
+        b'P' => pattern::fill(memory, pattern::of(numbers)),
+        _ => bad(),
+    }
+}
+
+pub fn answer(
+    letter: u8,
+    numbers: [u64; NUMBERS],
+    memory: &mut [u64],
+    values: &mut [u64],
+    counts: &mut [u32],
+    nodes: &mut [u64],
+) {
+    match letter {
+        b'e' | b's' | b'l' => ask(letter, call_of(numbers), memory, values, counts, nodes),
+        _ => change(letter, numbers, memory),
+    }
+}

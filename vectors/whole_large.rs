@@ -1,0 +1,77 @@
+//! Circuits of the sizes that the Rust names, 6,044 and 13,912 wires, and of the largest, 32,768.
+
+use crate::circuits::Script;
+use crate::pattern::Pattern;
+use crate::spoil::Spoil;
+use crate::{Question, Said, LARGE};
+
+/// num_vars and num_eval.
+const SIZES: [[u64; 2]; 5] = [
+    [2_044, 4_000],
+    [5_912, 8_000],
+    [4, 32_764],
+    [16_384, 16_384],
+    [32_764, 4],
+];
+
+const UNIFORM: u64 = 1 << 20;
+
+/// Every refusal; 8, 9 and 10 at the first, a middle and the last gate.
+fn spoils(num_vars: u64, num_eval: u64) -> Vec<Spoil> {
+    let region = 2 * num_vars + num_eval;
+    let mut spoils = vec![
+        Spoil::Wires1,
+        Spoil::Vars2,
+        Spoil::Gates3,
+        Spoil::Pointer4,
+        Spoil::Memory5(1),
+        Spoil::Lent6(0, 1),
+        Spoil::Lent6(1, 1),
+        Spoil::Lent6(2, 1),
+        Spoil::Cell7(0),
+        Spoil::Cell7(region / 2),
+        Spoil::Cell7(region - 1),
+        Spoil::Output12,
+    ];
+    for k in [0, num_eval / 2, num_eval - 1] {
+        spoils.extend([Spoil::Opcode8(k), Spoil::Left9(k), Spoil::Right10(k)]);
+    }
+    spoils
+}
+
+pub fn questions() -> Vec<Question> {
+    let mut script = Script(Vec::new());
+    for [vars, gates] in SIZES {
+        let at = 8;
+        for window in [UNIFORM, 1, 3] {
+            let pattern = Pattern {
+                seed: vars + window,
+                at,
+                vars,
+                gates,
+                window,
+            };
+            let placed = script.place_pattern(pattern);
+            script.ask(Said::LargeSums, placed.setting);
+            if window == UNIFORM {
+                script.ask(Said::LargeSums, placed.setting.with_lent(LARGE));
+                for spoil in spoils(vars, gates) {
+                    script.ask_spoilt(Said::LargeSums, &placed, &[spoil]);
+                }
+            }
+        }
+    }
+    // Past the limit, with room and memory enough: the counts are sound but for their sum.
+    for [vars, gates] in [[2, 32_768], [6, 32_764], [32_766, 4]] {
+        let pattern = Pattern {
+            seed: gates,
+            at: 0,
+            vars,
+            gates,
+            window: UNIFORM,
+        };
+        let placed = script.place_pattern(pattern);
+        script.ask(Said::LargeSums, placed.setting);
+    }
+    script.0
+}
