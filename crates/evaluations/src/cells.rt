@@ -1,4 +1,5 @@
 // Canaries, and what becomes of them.
+ghost use Prim.Native.Nat.{_≤_};
 use crate::say;
 use std::num::wrapping_add_u32;
 use std::num::wrapping_add_u64;
@@ -25,6 +26,12 @@ pub fn word(n: u64) -> u32 {
         return LARGEST_WORD;
     }
     n as u32
+}
+
+pub fn least(a: usize, b: usize) -> usize
+    ensures { λ r. ⌜ r ≤ b ⌝ }
+{
+    if a < b { a } else { b }
 }
 
 // A cell that is not there is not set.
