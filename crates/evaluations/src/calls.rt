@@ -25,6 +25,7 @@ fn sizes_of(letter: u8) -> Sizes {
             nodes: NODES,
         };
     }
+    // Room for every circuit of 32 wires, and cells past it.
     Sizes {
         values: 72,
         counts: 36,
@@ -33,16 +34,16 @@ fn sizes_of(letter: u8) -> Sizes {
 }
 
 // How many cells are lent of each, and what is handed to the evaluation.
-pub struct Call {
-    pub values: usize,
-    pub counts: usize,
-    pub nodes: usize,
-    pub memory: usize,
-    pub ctx: u32,
-    pub clk: u32,
-    pub ptr: u64,
-    pub num_vars: u64,
-    pub num_eval: u64,
+struct Call {
+    values: usize,
+    counts: usize,
+    nodes: usize,
+    memory: usize,
+    ctx: u32,
+    clk: u32,
+    ptr: u64,
+    num_vars: u64,
+    num_eval: u64,
 }
 
 fn call_of(numbers: [u64; NUMBERS]) -> Call {
