@@ -5,10 +5,10 @@ use std::num::wrapping_add_u32;
 use std::num::wrapping_add_u64;
 
 // The first canary of memory and of each buffer; every cell's is one more than that of the cell before.
-// None is what an evaluation writes, or an element.
+// None is an element, or near what a sum of small ones is before it is reduced.
 pub const MEMORY_CANARY: u64 = 18446744069416584321;
 
-pub const VALUE_CANARY: u64 = 18446744069414584321;
+pub const VALUE_CANARY: u64 = 18446744069417584321;
 
 pub const COUNT_CANARY: u32 = 4294000000;
 
