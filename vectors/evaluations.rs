@@ -38,9 +38,9 @@ pub const LARGE: [usize; 3] = [65_544, 32_772, 360_480];
 pub const SMALL: [usize; 3] = [72, 36, 384];
 
 /// The first canary of memory and of each buffer; every cell's is one more than that of the cell
-/// before. None is what an evaluation writes, or an element.
+/// before. None is an element, or near what a sum of small ones is before it is reduced.
 const MEMORY_CANARY: u64 = P + 2_000_000;
-const VALUE_CANARY: u64 = P;
+const VALUE_CANARY: u64 = P + 3_000_000;
 const COUNT_CANARY: u32 = 4_294_000_000;
 const NODE_CANARY: u64 = P + 1_000_000;
 

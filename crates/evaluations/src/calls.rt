@@ -25,6 +25,7 @@ fn sizes_of(letter: u8) -> Sizes {
             nodes: NODES,
         };
     }
+    // Room for every circuit of 32 wires, and cells past it.
     Sizes {
         values: 72,
         counts: 36,
@@ -33,16 +34,16 @@ fn sizes_of(letter: u8) -> Sizes {
 }
 
 // How many cells are lent of each, and what is handed to the evaluation.
-pub struct Call {
-    pub values: usize,
-    pub counts: usize,
-    pub nodes: usize,
-    pub memory: usize,
-    pub ctx: u32,
-    pub clk: u32,
-    pub ptr: u64,
-    pub num_vars: u64,
-    pub num_eval: u64,
+struct Call {
+    values: usize,
+    counts: usize,
+    nodes: usize,
+    memory: usize,
+    ctx: u32,
+    clk: u32,
+    ptr: u64,
+    num_vars: u64,
+    num_eval: u64,
 }
 
 fn call_of(numbers: [u64; NUMBERS]) -> Call {
@@ -59,10 +60,6 @@ fn call_of(numbers: [u64; NUMBERS]) -> Call {
     }
 }
 
-fn bad() {
-    say::bytes(b"bad");
-}
-
 fn told(answer: OutputAnswer) {
     match answer {
         OutputAnswer::Zero(header) => say::header(header),
@@ -70,60 +67,23 @@ fn told(answer: OutputAnswer) {
     }
 }
 
+// On as much of memory and of the buffers as is lent.
 fn evaluate(call: Call, memory: &[u64], values: &mut [u64], counts: &mut [u32], nodes: &mut [u64]) {
-    let answer = eval_circuit(
+    let memory_cells = cells::least(call.memory, memory.len());
+    let value_cells = cells::least(call.values, values.len());
+    let count_cells = cells::least(call.counts, counts.len());
+    let node_cells = cells::least(call.nodes, nodes.len());
+    told(eval_circuit(
         call.ctx,
         call.clk,
         call.ptr,
         call.num_vars,
         call.num_eval,
-        memory,
-        values,
-        counts,
-        nodes,
-    );
-    told(answer);
-}
-
-// On as much of memory and of the node cells as is lent.
-fn evaluate_nodes(
-    call: Call,
-    memory: &[u64],
-    values: &mut [u64],
-    counts: &mut [u32],
-    nodes: &mut [u64],
-) {
-    let memory_cells = call.memory;
-    let node_cells = call.nodes;
-    if memory.len() < memory_cells {
-        return bad();
-    }
-    if nodes.len() < node_cells {
-        return bad();
-    }
-    let lent = &mut nodes[0..node_cells];
-    evaluate(call, &memory[0..memory_cells], values, counts, lent);
-}
-
-// On as much of the value cells and of the counts as is lent.
-fn evaluate_wires(
-    call: Call,
-    memory: &[u64],
-    values: &mut [u64],
-    counts: &mut [u32],
-    nodes: &mut [u64],
-) {
-    let value_cells = call.values;
-    let count_cells = call.counts;
-    if values.len() < value_cells {
-        return bad();
-    }
-    if counts.len() < count_cells {
-        return bad();
-    }
-    let lent_values = &mut values[0..value_cells];
-    let lent_counts = &mut counts[0..count_cells];
-    evaluate_nodes(call, memory, lent_values, lent_counts, nodes);
+        &memory[0..memory_cells],
+        &mut values[0..value_cells],
+        &mut counts[0..count_cells],
+        &mut nodes[0..node_cells],
+    ));
 }
 
 fn say_cells(sizes: Sizes, values: &[u64], counts: &[u32], nodes: &[u64]) {
@@ -159,7 +119,7 @@ fn ask(
     cells::fill(values, cells::VALUE_CANARY, sizes.values);
     cells::fill_counts(counts, cells::COUNT_CANARY, sizes.counts);
     cells::fill(nodes, cells::NODE_CANARY, sizes.nodes);
-    evaluate_wires(call, memory, values, counts, nodes);
+    evaluate(call, memory, values, counts, nodes);
     say_buffers(letter, values, counts, nodes);
 }
 
@@ -168,7 +128,7 @@ fn change(letter: u8, numbers: [u64; NUMBERS], memory: &mut [u64]) {
         b'B' => cells::fill(memory, cells::MEMORY_CANARY, MEMORY),
         b'C' => cells::set(memory, numbers[0] as usize, numbers[1]),
         b'P' => pattern::fill(memory, pattern::of(numbers)),
-        _ => bad(),
+        _ => say::bytes(b"bad"),
     }
 }
 

@@ -1,13 +1,14 @@
 // Canaries, and what becomes of them.
+ghost use Prim.Native.Nat.{_≤_};
 use crate::say;
 use std::num::wrapping_add_u32;
 use std::num::wrapping_add_u64;
 
 // The first canary of memory and of each buffer; every cell's is one more than that of the cell before.
-// None is what an evaluation writes, or an element.
+// None is an element, or near what a sum of small ones is before it is reduced.
 pub const MEMORY_CANARY: u64 = 18446744069416584321;
 
-pub const VALUE_CANARY: u64 = 18446744069414584321;
+pub const VALUE_CANARY: u64 = 18446744069417584321;
 
 pub const COUNT_CANARY: u32 = 4294000000;
 
@@ -25,6 +26,12 @@ pub fn word(n: u64) -> u32 {
         return LARGEST_WORD;
     }
     n as u32
+}
+
+pub fn least(a: usize, b: usize) -> usize
+    ensures { λ r. ⌜ r ≤ b ⌝ }
+{
+    if a < b { a } else { b }
 }
 
 // A cell that is not there is not set.
