@@ -171,7 +171,7 @@ gates-refused c t n k number place e =
     same : (m l : ℕ) → refused m l ≡ refused number place → First c k n m l → First c k n number place
     same m l q f = rw (same-refusal q .0, same-refusal q .1) at f
 
--- "8, 9, 10 .. gate": a gate whose word is an element is refused with one of these, and with its own number
+-- 8, 9 or 10 with the gate: a gate whose word is an element is refused with one of these, and with its own number
 pub record Numbered (k number place : ℕ) : Type 0 where
   pub least : 8 ≤ number
   pub most : number ≤ 10

@@ -85,6 +85,6 @@ module _ (c : Circuit) where
       (total-sum (names (leftId (word c n))) (names (rightId (word c n))) (numWires c) ∙ ap₂ (λ (i j : ℕ). i + j) left right)
       ∙ two
 
-  -- "counts are multiplicities, and they total 2 · num_eval", where each operand names a wire
+  -- counts are multiplicities, and they total 2 · num_eval, where each operand names a wire
   pub multiplicity-total : ((k : ℕ) → k < c .gates → Early c k) → total (multiplicity c) (numWires c) ≡ 2 * c .gates
   multiplicity-total h = named-total (c .gates) h

@@ -37,7 +37,7 @@ module _ (c : Circuit) where
   unfolding valueBy
   by-gate most id h = rw (le-ltb (position (numWires c) id) (c .vars) h)
 
-  -- "a READ wire's value is its pair of cells"
+  -- a READ wire's value is its pair of cells
   pub value-read : (id : ℕ) → position (numWires c) id < c .vars → value c id ≡ valueAt (c .cells) (position (numWires c) id)
   value-read id h = by-read (numWires c) id (omega arith) h
 
@@ -58,7 +58,7 @@ module _ (c : Circuit) where
       ∙ sym (by-gate more id g))
       (below? (position (numWires c) id) (c .vars))
 
-  -- "a gate's is its left operand's value minus, times or plus its right's"
+  -- a gate's is its left operand's value minus, times or plus its right's
   pub value-gate : (k : ℕ) → k < c .gates → ((j : ℕ) → j ≤ k → Early c j)
       → value c (idAt c (c .vars + k)) ≡ combine (opcode (word c k)) (value c (leftId (word c k))) (value c (rightId (word c k)))
   value-gate k h early =

@@ -28,7 +28,7 @@ word c k = getD (c .cells) (2 * c .vars + k) 0
 abbrev pub gateOf : Circuit → ℕ → ℕ
 gateOf c id = position (numWires c) id - c .vars
 
--- "a READ wire's value is its pair of cells, a gate's is its left operand's value minus, times or plus its right's";
+-- a READ wire's value is its pair of cells, a gate's is its left operand's value minus, times or plus its right's;
 -- through at most so many gates, one behind the other
 unfoldable pub valueBy : ℕ → Circuit → ℕ → Pair
 valueBy zero c id = pair 0 0

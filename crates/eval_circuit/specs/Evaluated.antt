@@ -34,7 +34,7 @@ circuitAt memory ptr num-vars num-eval = record {
   gates = num-eval;
 }
 
--- "7: a cell is p or more; first such address"
+-- 7: "a cell is p or more", with the "first such address"
 unfoldable pub ofCells : ℕ → List ℕ → Told → Told
 ofCells ptr xs t = cond (ltb (firstOver xs) (length xs)) (refused 7 (ptr + firstOver xs)) t
 

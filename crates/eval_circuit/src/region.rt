@@ -23,7 +23,7 @@ pub const OUT_OF_MEMORY: u32 = 5;
 // "A slice longer than 2^32 counts as 2^32 cells."
 const MOST_CELLS: usize = 1 << 32;
 
-// "Sums are whole numbers": none of them is made before it is known to fit.
+// Sums are whole numbers: none of them is made before it is known to fit.
 pub fn test_region(ptr: u64, num_vars: u64, num_eval: u64, len: usize) -> Tested
     ensures { λ r. ⌜ testedTold r ≡ ofRegion ptr «num_vars» «num_eval» (cellsCounted len) (accepted []) ⌝ }
 {

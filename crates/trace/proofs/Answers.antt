@@ -57,7 +57,7 @@ buffers-back : (r : StepAnswer) (b : Lent) → stepOutcome r b .buffers ≡ b
 buffers-back (step.Done s) b = refl
 buffers-back (step.Refused s n k) b = refl
 
--- "any two outcomes that a contract allows are the same one"
+-- "any two outcomes it allows are the same one", of each contract
 pub open-determined : (r s : OpenAnswer) → openTold r ≡ openTold s → r ≡ s
 open-determined r s e = sym (opens-back r) ∙ ap opens e ∙ opens-back s
 

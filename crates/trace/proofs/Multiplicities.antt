@@ -172,7 +172,7 @@ named-twice word e =
     omega arith
 
 module _ (ctx clk num-read num-eval : ℕ) (b : Lent) where
-  -- "after any run of steps each made wire's count is the number of operands naming it in accepted gates, plus the left counts that refused steps left raised"
+  -- after any run of steps each made wire's count is the number of operands naming it in accepted gates, plus the left counts that refused steps left raised
   -- an accepted opening is not asked for: where opening refuses, no call makes a wire
   pub multiplicities : (cs : List Call) (id : ℕ) → id < wires num-read num-eval → position (wires num-read num-eval) id < madeOf (calls cs (start ctx clk num-read num-eval b) .state)
       → getD (calls cs (start ctx clk num-read num-eval b) .buffers .counts) (position (wires num-read num-eval) id) 0

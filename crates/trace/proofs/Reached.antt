@@ -132,7 +132,7 @@ module _ (ctx clk num-read num-eval : ℕ) (b : Lent) (vs : List ℕ) (opens : o
   pub reached-ready : (cs : List Call) → Ready (calls cs (start ctx clk num-read num-eval b))
   reached-ready cs = each-list Ready call-ready cs (start ctx clk num-read num-eval b) start-ready
 
-  -- "a state that opening and accepted steps give never gets 13 for its own numbers"
+  -- a state that opening and accepted steps give never gets 13 for its own numbers
   pub reached-sound : (cs : List Call) → sound (calls cs (start ctx clk num-read num-eval b) .state) ≡ true
   reached-sound cs = sound-is _ (reached-ready cs .is-sound)
 

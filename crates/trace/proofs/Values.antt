@@ -39,7 +39,7 @@ read-values s ptr w b us e =
       second = rw (second-position s h (omega arith)) (value-stored (sets vs (2 * m) (cells v₀)) (m + 1) v₁ (simp length-sets (omega arith)));
     })
 
--- "an accepted EVAL step's value is its operands' values taken together as the opcode says", at the position of the id id_next
+-- an accepted EVAL step's value is its operands' values taken together as the opcode says, at the position of the id id_next
 pub gate-value : (s : CircuitEvaluation) (ptr word : ℕ) (b : Lent) (us : List ℕ) → evalStep s ptr word b .told ≡ accepted us
     → valueOf (evalStep s ptr word b .state) (s .«id_next») (evalStep s ptr word b .buffers) ≡ combine (opcode word) (valueOf s (leftId word) b) (valueOf s (rightId word) b)
 gate-value s ptr word b us e =

@@ -20,7 +20,7 @@ ofCounts most num-read num-eval t =
     (cond (eqb num-eval 0) (refused 3 0)
     t))
 
--- "node cells: 7 a READ node, then 11 an EVAL node"
+-- node cells: "7 a READ node", "then 11 an EVAL node"
 abbrev pub nodeCells : ℕ → ℕ → ℕ
 nodeCells reads evals = 7 * reads + 11 * evals
 
@@ -31,6 +31,6 @@ room num-read num-eval values counts nodes =
     && (leb (wires num-read num-eval) counts
     && leb (nodeCells num-read num-eval) nodes)
 
--- "6: a lent value, count or node buffer is shorter than the whole circuit needs"
+-- 6: "a lent value, count or node buffer is shorter than the whole circuit needs"
 abbrev pub withRoom : Bool → Told → Told
 withRoom b t = cond b t (refused 6 0)

@@ -23,7 +23,7 @@ evalTests s fit ptr word =
     (ofElements (word ∷ ptr ∷ [])
     (accepted [])))
 
--- "8: gate word doesn't decode; gate, from 0"
+-- 8: "gate word doesn't decode", with the "gate, from 0"
 abbrev pub atGate : ℕ → Told → Told
 atGate gate (accepted vs) = accepted vs
 atGate gate (refused number place) = refused number gate
@@ -47,7 +47,7 @@ storedAnswer k vs cs =
     (refused 7 (2 * k + 1)))
     (refused 7 (2 * k))
 
--- "9, 10: left, right operand not yet made, or id at least num_wires; gate"
+-- 9, 10: "left, right operand not yet made, or id at least num_wires", with the gate
 unfoldable pub operandAnswer : ℕ → ℕ → ℕ → ℕ → ℕ → List ℕ → List ℕ → Told
 operandAnswer number gate num-wires made id vs cs =
     cond (isMade num-wires made id) (storedAnswer (position num-wires id) vs cs) (refused number gate)
@@ -105,7 +105,7 @@ abbrev pub gateStep : CircuitEvaluation → ℕ → ℕ → ℕ → ℕ → Lent
 gateStep s ptr left right op b =
     outcome (accepted []) (evalDone s) (evalMade s ptr left right op (valueOf s left b) (valueOf s right b) b)
 
--- "the left operand: 9, 7, 13, then the right with 10 likewise"; "the left count is raised before the right operand is looked at, and stays raised where the right is refused"
+-- the left operand with 9, 7, 13, "then the right with 10 likewise"; "the left count is raised before the right operand is looked at, and stays raised where the right is refused"
 unfoldable pub operandsStep : CircuitEvaluation → ℕ → ℕ → ℕ → ℕ → Lent → Outcome
 operandsStep s ptr left right op b =
     unlessRefused (operand 9 s left b) s b

@@ -1,4 +1,4 @@
--- Opening: "takes ctx, clk, num_read and num_eval (u32) and refuses 1, 2, 3, 6, changing nothing".
+-- Opening: "takes ctx, clk, num_read and num_eval (u32) and refuses" 1, 2, 3 and 6, "changing nothing".
 -- Assumes nothing.
 use Prim.Native.Nat.{ℕ}
 use mathlib.Core.List.{List, [], _∷_}

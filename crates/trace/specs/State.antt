@@ -40,6 +40,6 @@ readTurn s = sound s && ltb (s .«reads_done») (s .«num_read»)
 unfoldable pub evalTurn : CircuitEvaluation → Bool
 evalTurn s = sound s && (eqb (s .«reads_done») (s .«num_read») && ltb (s .«evals_done») (s .«num_eval»))
 
--- "13: step out of turn, or a state that no calls give"
+-- 13: "step out of turn, or a state that no calls give"
 abbrev pub inTurn : Bool → Told → Told
 inTurn b t = cond b t (refused 13 0)
