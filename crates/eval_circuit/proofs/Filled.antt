@@ -9,9 +9,10 @@ use Rattle.field.specs.Pair.{pair}
 use Rattle.trace.specs.Counts.{nodeCells}
 use Rattle.trace.specs.Outcome.{Lent, valueAt}
 use Rattle.eval_circuit.specs.Circuit.{Circuit, numWires, value, multiplicity}
-use Rattle.eval_circuit.specs.Evaluated.{each, idAt, valueCells, countCell, readCells, evalCells, filled}
+use Rattle.eval_circuit.specs.Evaluated.{idAt, valueCells, countCell, readCells, evalCells, filled}
+use Rattle.field.specs.Lists.{each}
 use Rattle.eval_circuit.proofs.Stages.{values-length, counts-length, nodes-length}
-use Rattle.eval_circuit.proofs.Each.{each-then, each-rest, front-kept, front-length}
+use Rattle.field.proofs.Each.{each-then, each-rest, front-kept, front-length}
 
 module _ (c : Circuit) (ptr : ℕ) (b : Lent) where
   value-cell : (k j : ℕ) → k < numWires c → j < 2 → getD (filled c ptr b .values) (2 * k + j) 0 ≡ getD (valueCells c k) j 0

@@ -10,8 +10,8 @@ use lib.Seq.{sets, sets-eq, take-at, drop-append-add, drop-drop, ext-getD, set-a
 use Rattle.trace.specs.Eval.{raised}
 use Rattle.trace.specs.Calls.{names}
 use Rattle.trace.proofs.Stores.{raised-at}
-use Rattle.eval_circuit.specs.Evaluated.{each}
-use Rattle.eval_circuit.proofs.Each.{each-more, each-length, each-at, front-length}
+use Rattle.field.specs.Lists.{each}
+use Rattle.field.proofs.Each.{each-more, each-length, each-at, front-length}
 
 -- the next cells, where the first n are made
 pub fills : (front old vs : List ℕ) (n : ℕ) → length front ≡ n → n + length vs ≤ length old

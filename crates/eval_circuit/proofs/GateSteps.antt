@@ -29,10 +29,11 @@ use Rattle.trace.proofs.NextId.{next-lacking, next-later}
 use Rattle.trace.proofs.StepTests.{eval-cells, as-stored, stored-value}
 use Rattle.trace.proofs.Ways.{eval-undecoded, eval-operands, left-refused, right-refused, both-taken}
 use Rattle.eval_circuit.specs.Circuit.{Circuit, numWires, word, value, namedBy, gateAnswer}
-use Rattle.eval_circuit.specs.Evaluated.{each, idAt, valueCells, readCells, evalCells}
+use Rattle.eval_circuit.specs.Evaluated.{idAt, valueCells, readCells, evalCells}
+use Rattle.field.specs.Lists.{each}
 use Rattle.eval_circuit.specs.Inside.{circuitOf, after, namedCell, stage, Past, Prepared}
 use Rattle.eval_circuit.proofs.Cases.{true-or-false}
-use Rattle.eval_circuit.proofs.Each.{each-more, each-equal, each-then}
+use Rattle.field.proofs.Each.{each-more, each-equal, each-then}
 use Rattle.eval_circuit.proofs.Fills.{fills, each-fills, each-raised}
 use Rattle.eval_circuit.proofs.RegionCells.{region-at, region-length, region-word}
 use Rattle.eval_circuit.proofs.Values.{Early, value-gate, value-elements}

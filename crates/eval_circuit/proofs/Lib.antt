@@ -1,7 +1,6 @@
 pub mod Cases
 pub mod Values
 pub mod Gates
-pub mod Each
 pub mod RegionCells
 pub mod RegionTests
 pub mod Fills

@@ -132,22 +132,3 @@ region-pass ptr v e cells t r =
     let h₃ = r .whole-evals in
     let h₄ = r .aligned in
     inside ptr v e cells t (r .few) (λ q. omega arith) (λ q. omega arith) (λ q. omega arith) (omega arith) (omega arith) (r .in-memory)
-
--- the look at the cells from an address on
-part-one : (xs : List ℕ) (at end : ℕ) → at < end → end ≤ length xs → take (end - at) (drop at xs) ≡ getD xs at 0 ∷ take (end - (at + 1)) (drop (at + 1) xs)
-part-one xs at end h k =
-    let e : end - at ≡ suc (end - (at + 1)) = omega arith in
-    let f : at + 1 ≡ suc at = omega arith in
-    rw (e, drop-cons xs at 0 (omega arith), f)
-
-pub over-at : (xs : List ℕ) (at end : ℕ) → at < end → end ≤ length xs → p ≤ getD xs at 0 → at ≡ at + firstOver (take (end - at) (drop at xs))
-over-at xs at end h k l = rw (part-one xs at end h k) (omega (arith, over-here (getD xs at 0) (take (end - (at + 1)) (drop (at + 1) xs)) l))
-
-pub over-next : (xs : List ℕ) (at end : ℕ) → at < end → end ≤ length xs → getD xs at 0 < p
-    → at + 1 + firstOver (take (end - (at + 1)) (drop (at + 1) xs)) ≡ at + firstOver (take (end - at) (drop at xs))
-over-next xs at end h k l = rw (part-one xs at end h k) (omega (arith, over-later (getD xs at 0) (take (end - (at + 1)) (drop (at + 1) xs)) l))
-
-pub over-end : (xs : List ℕ) (at end : ℕ) → at ≡ end → end ≡ at + firstOver (take (end - at) (drop at xs))
-over-end xs at end e =
-    let z : end - at ≡ 0 = omega arith in
-    rw z (omega (arith, over-none))

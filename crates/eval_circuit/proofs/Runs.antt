@@ -22,10 +22,11 @@ use Rattle.trace.specs.Outcome.{Lent, valueAt}
 use Rattle.trace.specs.Output.{headerNumbers, headerOf, isZero, outputTold, outputAnswer}
 use Rattle.trace.proofs.NextId.{next-none}
 use Rattle.eval_circuit.specs.Circuit.{Circuit, numWires, value, gatesAnswer}
-use Rattle.eval_circuit.specs.Evaluated.{circuitAnswer, each, idAt, valueCells, readCells, evalCells}
+use Rattle.eval_circuit.specs.Evaluated.{circuitAnswer, idAt, valueCells, readCells, evalCells}
+use Rattle.field.specs.Lists.{each}
 use Rattle.eval_circuit.specs.Inside.{circuitOf, after, namedCell, stage, Past, Prepared, stepTold, Left, Ran}
 use Rattle.eval_circuit.proofs.Cases.{clash}
-use Rattle.eval_circuit.proofs.Each.{each-then}
+use Rattle.field.proofs.Each.{each-then}
 use Rattle.eval_circuit.proofs.Gates.{Passed, First, gates-pass, gates-stop, gates-accepted, gates-refused}
 use Rattle.eval_circuit.proofs.Stages.{nodes-length, values-length, counts-length, lent-equal, after-sound, stage-values, stage-counts, stage-nodes, stage-fits}
 use Rattle.eval_circuit.proofs.GateSteps.{past-front}

@@ -17,7 +17,7 @@ use Rattle.trace.specs.Output.{isZero}
 use Rattle.eval_circuit.specs.Circuit.{Circuit, value}
 use Rattle.eval_circuit.specs.Evaluated.{memoryCells, circuitAt, ofRegion, evalAnswer, idAt, countCell, cleared, evalBuffers}
 use Rattle.eval_circuit.proofs.Cases.{true-or-false, clash, same-refusal}
-use Rattle.eval_circuit.proofs.Each.{each-equal}
+use Rattle.field.proofs.Each.{each-equal}
 use Rattle.eval_circuit.proofs.Accepted.{header, accepted-header}
 use Rattle.eval_circuit.proofs.Wires.{accepted-filled, node-read, node-eval, kept-values, kept-nodes, length-values, length-nodes}
 use Rattle.eval_circuit.proofs.Shape.{Alike, same-word, same-memory, same-cells-gates, same-multiplicity}

@@ -6,11 +6,11 @@ use mathlib.Core.Logic.{_⊎_, ⊎-elim, inl, inr}
 use Prim.Native.Nat.{ℕ, zero, suc, _+_, _-_, _*_, _≤_, _<_, min}
 use native.Mathlib.Omega.{arith}
 use lib.ListN.{length, getD, drop, length-take, length-drop}
-use Rattle.field.specs.Told.{Told}
+use Rattle.field.specs.Told.{Told, orElse}
 use Rattle.field.specs.Field.{p, firstOver}
 use Rattle.field.proofs.Cases.{below?}
 use Rattle.field.proofs.Over.{over-here, over-later}
-use Rattle.eval_circuit.specs.Circuit.{Circuit, word, namedBy, multiplicity, orElse, gateAnswer, gatesAnswer}
+use Rattle.eval_circuit.specs.Circuit.{Circuit, word, namedBy, multiplicity, gateAnswer, gatesAnswer}
 use Rattle.eval_circuit.specs.Evaluated.{cellsCounted, memoryCells, regionCells, circuitAt, ofCells}
 use Rattle.eval_circuit.proofs.RegionCells.{region-at, region-word}
 

@@ -24,9 +24,10 @@ use Rattle.trace.proofs.StepTests.{read-cells}
 use Rattle.trace.proofs.Ways.{read-accepted}
 use Rattle.trace.proofs.NextId.{next-lacking, next-later}
 use Rattle.eval_circuit.specs.Circuit.{Circuit, numWires, value, namedBy}
-use Rattle.eval_circuit.specs.Evaluated.{each, idAt, valueCells, readCells, evalCells}
+use Rattle.eval_circuit.specs.Evaluated.{idAt, valueCells, readCells, evalCells}
+use Rattle.field.specs.Lists.{each}
 use Rattle.eval_circuit.specs.Inside.{circuitOf, wordAt, after, namedCell, stage, Prepared}
-use Rattle.eval_circuit.proofs.Each.{each-none, each-more, each-length, front-length}
+use Rattle.field.proofs.Each.{each-none, each-more, each-length, front-length}
 use Rattle.eval_circuit.proofs.Fills.{fills, each-fills}
 use Rattle.eval_circuit.proofs.RegionCells.{region-at}
 use Rattle.eval_circuit.proofs.Values.{value-read}

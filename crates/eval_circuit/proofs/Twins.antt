@@ -12,7 +12,8 @@ use Rattle.field.proofs.Over.{over-below}
 use Rattle.instruction.specs.Decode.{decodeAnswer}
 use Rattle.trace.specs.Counts.{room}
 use Rattle.eval_circuit.specs.Circuit.{valueBy, gateAnswer, gatesAnswer}
-use Rattle.eval_circuit.specs.Evaluated.{ofRegion, ofCells, evalAnswer, each, evalBuffers}
+use Rattle.eval_circuit.specs.Evaluated.{ofRegion, ofCells, evalAnswer, evalBuffers}
+use Rattle.field.specs.Lists.{each}
 use Rattle.eval_circuit.specs.Listing.{memory, before, answered}
 use Rattle.eval_circuit.proofs.Accepted.{header}
 use Rattle.eval_circuit.proofs.Shape.{Alike}

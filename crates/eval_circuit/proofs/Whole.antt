@@ -26,7 +26,8 @@ use Rattle.trace.specs.Output.{isZero, outputTold}
 use Rattle.trace.proofs.Tests.{room-of, counts-pass}
 use Rattle.trace.proofs.Answers.{open-determined}
 use Rattle.eval_circuit.specs.Circuit.{Circuit, numWires, value}
-use Rattle.eval_circuit.specs.Evaluated.{memoryCells, regionCells, circuitAt, ofCells, circuitAnswer, ofRegion, evalAnswer, each, valueCells, countCell, readCells, evalCells, filled, zeroed, cleared, buffersAfter, evalBuffers}
+use Rattle.eval_circuit.specs.Evaluated.{memoryCells, regionCells, circuitAt, ofCells, circuitAnswer, ofRegion, evalAnswer, valueCells, countCell, readCells, evalCells, filled, zeroed, cleared, buffersAfter, evalBuffers}
+use Rattle.field.specs.Lists.{each}
 use Rattle.eval_circuit.specs.Inside.{circuitOf, after, stage, Past, Prepared, Ran}
 use Rattle.eval_circuit.proofs.Cases.{clash, same-refusal}
 use Rattle.eval_circuit.proofs.Gates.{First, Passed, gate-refused, gates-refused}

@@ -5,7 +5,7 @@ use mathlib.Core.Bool.{cond}
 use mathlib.Core.List.{List, []}
 use lib.Dec.{ltb}
 use lib.ListN.{getD}
-use Rattle.field.specs.Told.{Told, accepted, refused}
+use Rattle.field.specs.Told.{Told, accepted, refused, orElse}
 use Rattle.field.specs.Pair.{Pair, pair}
 use Rattle.instruction.specs.Decode.{leftId, rightId, opcode, decodeAnswer}
 use Rattle.trace.specs.Outcome.{valueAt}
@@ -48,11 +48,6 @@ namedBy (suc n) c id = namedBy n c id + (names (leftId (word c n)) id + names (r
 
 abbrev pub multiplicity : Circuit → ℕ → ℕ
 multiplicity c id = namedBy (c .gates) c id
-
--- the first refusal, or what comes after
-abbrev pub orElse : Told → Told → Told
-orElse (accepted vs) t = t
-orElse (refused number place) t = refused number place
 
 -- "gate by gate 8, 9, 10"; before gate k there are the variables' wires and those of k gates
 unfoldable pub gateAnswer : Circuit → ℕ → Told

@@ -6,6 +6,7 @@ use mathlib.Core.List.{List, [], _∷_, _++_}
 use lib.Dec.{ltb, leb, eqb}
 use lib.ListN.{length, take, drop, replicate}
 use Rattle.field.specs.Told.{Told, accepted, refused}
+use Rattle.field.specs.Lists.{each}
 use Rattle.field.specs.Field.{p, firstOver}
 use Rattle.field.specs.Pair.{cells}
 use Rattle.instruction.specs.Decode.{leftId, rightId, opcode}
@@ -63,11 +64,6 @@ evalAnswer ctx clk ptr num-vars num-eval memory b =
     (withRoom (room (num-vars / 2) num-eval (length (b .values)) (length (b .counts)) (length (b .nodes)))
     (ofCells ptr (circuitAt memory ptr num-vars num-eval .cells)
     (circuitAnswer ctx clk (circuitAt memory ptr num-vars num-eval))))
-
--- the lists f 0, f 1, .. f (n - 1), one after the other
-unfoldable pub each : (ℕ → List ℕ) → ℕ → List ℕ
-each f zero = []
-each f (suc n) = each f n ++ f n
 
 -- the id of the wire at a position: ids go down
 abbrev pub idAt : Circuit → ℕ → ℕ

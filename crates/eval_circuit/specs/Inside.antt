@@ -15,7 +15,8 @@ use Rattle.trace.specs.Counts.{mostWires, wires, nodeCells}
 use Rattle.trace.specs.State.{wiresOf, nextId}
 use Rattle.trace.specs.Outcome.{Lent, lent}
 use Rattle.eval_circuit.specs.Circuit.{Circuit, numWires, namedBy}
-use Rattle.eval_circuit.specs.Evaluated.{circuitAt, each, idAt, valueCells, readCells, evalCells}
+use Rattle.eval_circuit.specs.Evaluated.{circuitAt, idAt, valueCells, readCells, evalCells}
+use Rattle.field.specs.Lists.{each}
 
 -- the circuit of a state, in memory from an address on
 abbrev pub circuitOf : CircuitEvaluation → List ℕ → ℕ → Circuit

@@ -11,7 +11,8 @@ use Rattle.field.specs.Answer.{ofElements}
 use Rattle.trace.specs.Counts.{room}
 use Rattle.trace.specs.Outcome.{Lent, lent}
 use Rattle.eval_circuit.specs.Circuit.{valueBy, namedBy, gateAnswer, gatesAnswer}
-use Rattle.eval_circuit.specs.Evaluated.{ofRegion, ofCells, evalAnswer, each, evalBuffers}
+use Rattle.eval_circuit.specs.Evaluated.{ofRegion, ofCells, evalAnswer, evalBuffers}
+use Rattle.field.specs.Lists.{each}
 
 abbrev pub memory : List ℕ
 memory = 3 ∷ 0 ∷ 4 ∷ 0 ∷ 2305843013508661253 ∷ 1152921508901814277 ∷ 3221225475 ∷ 1152921506754330625 ∷ []

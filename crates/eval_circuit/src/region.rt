@@ -1,13 +1,9 @@
 // The region of a circuit: "ptr + 2·num_vars + num_eval" cells of memory, tested before any step.
 ghost use mathlib.Core.Path.{_≡_};
 ghost use mathlib.Core.List.{[]};
-ghost use Prim.Native.Nat.{_+_, _-_, _≤_};
-ghost use lib.ListN.{length, take, drop};
 ghost use Rattle.field.specs.Told.{accepted};
-ghost use Rattle.field.specs.Field.{firstOver};
-ghost use Rattle.trace.specs.Inside.{testedTold};
+ghost use Rattle.trace.specs.Record.{testedTold};
 ghost use Rattle.eval_circuit.specs.Evaluated.{cellsCounted, ofRegion};
-use field::P;
 use trace::BAD_EVAL_COUNT;
 use trace::BAD_READ_COUNT;
 use trace::MAX_EVAL_CIRCUIT_WIRES;
@@ -52,19 +48,4 @@ fn cells_counted(len: usize) -> usize
     ensures { λ r. ⌜ r ≡ cellsCounted len ⌝ }
 {
     if MOST_CELLS < len { MOST_CELLS } else { len }
-}
-
-// The address of the first cell from start on that is p or more; end where none before it is.
-pub fn first_over(memory: &[u64], start: usize, end: usize) -> usize
-    requires { ⌜ (start ≤ end) × (end ≤ length (now memory)) ⌝ }
-    ensures { λ r. ⌜ r ≡ start + firstOver (take (end - start) (drop start (now (memory .entry)))) ⌝ }
-{
-    let mut at = start;
-    while at < end {
-        if P <= memory[at] {
-            return at;
-        }
-        at += 1;
-    }
-    end
 }

@@ -7,3 +7,4 @@ pub mod Over
 pub mod Laws
 pub mod PairLaws
 pub mod Answers
+pub mod Each

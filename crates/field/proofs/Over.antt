@@ -2,11 +2,12 @@
 -- Assumes nothing.
 use mathlib.Core.Path.{_≡_, refl, sym, ap, _∙_}
 use mathlib.Core.List.{List, [], _∷_}
-use mathlib.Core.Logic.{⊎-elim}
-use Prim.Native.Nat.{ℕ, zero, suc, _≤_, _<_}
+use mathlib.Core.Logic.{_⊎_, ⊎-elim}
+use Prim.Native.Nat.{ℕ, zero, suc, _+_, _-_, _≤_, _<_}
 use native.Mathlib.Omega.{arith}
 use borrow.Author.Tests.{lt-ltb, le-ltb}
-use lib.ListN.{length, getD}
+use lib.ListN.{length, getD, take, drop, drop-of-length-le}
+use lib.Seq.{drop-cons, take-nil}
 use Rattle.field.specs.Told.{Told, accepted, refused}
 use Rattle.field.specs.Field.{p, firstOver}
 use Rattle.field.specs.Answer.{ofElements}
@@ -91,3 +92,25 @@ elements-of xs vs t e k h =
   where
     clash : {n : ℕ} → refused 7 n ≡ accepted vs → getD xs k 0 < p
     clash q = let z : _≡_ {A = ℕ} 0 1 = cc in absurd (omega arith)
+
+-- a look at cells, one after the other
+part-one : (xs : List ℕ) (at end : ℕ) → at < end → at < length xs → take (end - at) (drop at xs) ≡ getD xs at 0 ∷ take (end - (at + 1)) (drop (at + 1) xs)
+part-one xs at end h k =
+    let e : end - at ≡ suc (end - (at + 1)) = omega arith in
+    let f : at + 1 ≡ suc at = omega arith in
+    rw (e, drop-cons xs at 0 (omega arith), f)
+
+pub over-at : (xs : List ℕ) (at end : ℕ) → at < end → at < length xs → p ≤ getD xs at 0 → at ≡ at + firstOver (take (end - at) (drop at xs))
+over-at xs at end h k l = rw (part-one xs at end h k) (omega (arith, over-here (getD xs at 0) (take (end - (at + 1)) (drop (at + 1) xs)) l))
+
+pub over-next : (xs : List ℕ) (at end : ℕ) → at < end → at < length xs → getD xs at 0 < p
+    → at + 1 + firstOver (take (end - (at + 1)) (drop (at + 1) xs)) ≡ at + firstOver (take (end - at) (drop at xs))
+over-next xs at end h k l = rw (part-one xs at end h k) (omega (arith, over-later (getD xs at 0) (take (end - (at + 1)) (drop (at + 1) xs)) l))
+
+-- it ends at its end, or at the end of the cells
+pub over-end : (xs : List ℕ) (at end : ℕ) → (end ≤ at) ⊎ (length xs ≤ at) → at ≡ at + firstOver (take (end - at) (drop at xs))
+over-end xs at end h =
+    ⊎-elim
+    (λ (l : end ≤ at). let z : end - at ≡ 0 = omega arith in rw z (omega (arith, over-none)))
+    (λ l. rw (drop-of-length-le xs {i = at} l, take-nil) (omega (arith, over-none)))
+    h

@@ -1,4 +1,5 @@
 pub mod Told
+pub mod Lists
 pub mod Field
 pub mod Pair
 pub mod Answer

@@ -7,3 +7,13 @@ use mathlib.Core.List.{List}
 pub data Told : Type 0 where
   accepted : List ℕ → Told
   refused : ℕ → ℕ → Told
+
+-- the first refusal, or what comes after
+abbrev pub orElse : Told → Told → Told
+orElse (accepted vs) t = t
+orElse (refused number place) t = refused number place
+
+-- "a refusal changes nothing"
+abbrev pub changed : Told → List ℕ → List ℕ → List ℕ
+changed (accepted vs) new old = new
+changed (refused number place) new old = old

@@ -1,4 +1,5 @@
 // Elements of the field of p = 2^64 - 2^32 + 1 (`felt`), and pairs of them (`quad`).
+pub mod cells;
 pub mod felt;
 mod modular;
 pub mod quad;

@@ -13,7 +13,8 @@ use Rattle.instruction.specs.Decode.{decodeAnswer}
 use Rattle.trace.specs.Counts.{room}
 use Rattle.trace.specs.Outcome.{Lent, lent}
 use Rattle.eval_circuit.specs.Circuit.{valueBy, namedBy, gateAnswer, gatesAnswer}
-use Rattle.eval_circuit.specs.Evaluated.{ofRegion, ofCells, evalAnswer, each, evalBuffers}
+use Rattle.eval_circuit.specs.Evaluated.{ofRegion, ofCells, evalAnswer, evalBuffers}
+use Rattle.field.specs.Lists.{each}
 use Rattle.eval_circuit.specs.Listing.{memory}
 use Rattle.numbers.specs.Form.{bytesOf, bytesIn}
 

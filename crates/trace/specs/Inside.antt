@@ -8,8 +8,6 @@ use Rattle.field.specs.Told.{Told, accepted, refused}
 use Rattle.field.specs.Field.{p}
 use Rattle.field.specs.Answer.{pairOf}
 use Rattle.trace.specs.declared.CircuitEvaluation.{CircuitEvaluation}
-use Rattle.trace.specs.declared.Tested.{Tested}
-use Rattle.trace.specs.declared.Tested.the-variants as tested
 use Rattle.trace.specs.declared.wire_bus.WireBus.{WireBus}
 use Rattle.trace.specs.declared.wire_bus.Operand.{Operand}
 use Rattle.trace.specs.declared.wire_bus.Operand.the-variants as operand
@@ -21,10 +19,6 @@ use Rattle.trace.specs.Read.{readNode}
 use Rattle.trace.specs.Eval.{evalNode, raised}
 
 -- each case of an answer, by number, place and values
-abbrev pub testedTold : Tested → Told
-testedTold tested.Passed = accepted []
-testedTold (tested.Refused number place) = refused number place
-
 abbrev pub operandTold : Operand → Told
 operandTold (operand.Value v w) = accepted (v ∷ w ∷ [])
 operandTold (operand.Refused number place) = refused number place

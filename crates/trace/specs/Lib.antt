@@ -5,5 +5,6 @@ pub mod Outcome
 pub mod Read
 pub mod Eval
 pub mod Output
+pub mod Record
 pub mod Inside
 pub mod Calls

@@ -7,21 +7,28 @@ mod steps;
 mod wire_bus;
 
 ghost use mathlib.Core.Path.{_≡_};
+ghost use mathlib.Core.List.{[]};
 ghost use lib.ListN.{length};
+ghost use Rattle.field.specs.Told.{accepted};
 ghost use Rattle.trace.specs.Outcome.{lent, stepOutcome};
 ghost use Rattle.trace.specs.Open.{openTold, openAnswer};
 ghost use Rattle.trace.specs.Read.{readStep};
 ghost use Rattle.trace.specs.Eval.{evalStep};
 ghost use Rattle.trace.specs.Output.{outputTold, outputAnswer};
+ghost use Rattle.trace.specs.Record.{testedTold, headerTold, ofRecord, finalizedAnswer};
 use crate::operation::before;
 use crate::state::has_room;
 use crate::state::test_counts;
 use crate::wire_bus::Operand;
+use field::P;
+use field::cells::first_over;
 use instruction::DecodeAnswer;
 use instruction::NOT_INSTRUCTION;
 use instruction::decode_instruction;
 
 pub const MAX_EVAL_CIRCUIT_WIRES: u32 = 1 << 15;
+
+pub const MAX_NUM_ACE_WIRES: u32 = (1 << 30) - 1;
 
 // The cells of a READ node and of an EVAL node.
 pub const READ_CELLS: usize = 7;
@@ -50,6 +57,13 @@ pub const NOT_ZERO: u32 = 12;
 
 // The refusal of a step out of turn, or of a state that no calls give.
 pub const OUT_OF_TURN: u32 = 13;
+
+// The refusals of a record's cells, of the number of its wires, and of one without an EVAL node.
+pub const NOT_IN_FIELD: u32 = 17;
+
+pub const OVER_MAX_WIRES: u32 = 19;
+
+pub const NO_EVAL_NODE: u32 = 21;
 
 pub struct CircuitEvaluation {
     pub ctx: u32,
@@ -84,6 +98,12 @@ pub enum StepAnswer {
 // The record's header, where the last wire is zero, or the refusal's number and place.
 pub enum OutputAnswer {
     Zero(RecordHeader),
+    Refused(u32, u64),
+}
+
+// A record's header, or the refusal's number and place.
+pub enum HeaderAnswer {
+    Header(RecordHeader),
     Refused(u32, u64),
 }
 
@@ -208,12 +228,55 @@ impl CircuitEvaluation {
         if values[2 * (num_wires - 1) + 1] != 0 {
             return OutputAnswer::Refused(NOT_ZERO, 0);
         }
-        OutputAnswer::Zero(RecordHeader {
-            ctx: self.ctx,
-            clk: self.clk,
-            num_read: self.num_read,
-            num_eval: self.num_eval,
-            id_next: self.id_next,
-        })
+        OutputAnswer::Zero(self.header())
+    }
+
+    // The header of a state whose steps are all done: "13 and 11 come before" what a record is
+    // tested for. What the last wire holds is not asked.
+    pub fn finalized(self) -> HeaderAnswer
+        ensures { λ r. ⌜ headerTold r ≡ finalizedAnswer self ⌝ }
+    {
+        if !self.is_sound() {
+            return HeaderAnswer::Refused(OUT_OF_TURN, 0);
+        }
+        if self.made() != self.num_wires() {
+            return HeaderAnswer::Refused(NOT_FINISHED, 0);
+        }
+        HeaderAnswer::Header(self.header())
+    }
+}
+
+impl RecordHeader {
+    // "21, 19, 6, 17 (a used value or node cell, or id_next, p or more)."
+    pub fn test(self, values: &[u64], counts: &[u32], nodes: &[u64]) -> Tested
+        ensures { λ r. ⌜ testedTold r ≡ ofRecord self (lent (now (values .entry)) (now (counts .entry)) (now (nodes .entry))) (accepted []) ⌝ }
+    {
+        if self.num_eval == 0 {
+            return Tested::Refused(NO_EVAL_NODE, 0);
+        }
+        let num_wires = 2 * self.num_read as usize + self.num_eval as usize;
+        if (MAX_NUM_ACE_WIRES as usize) < num_wires {
+            return Tested::Refused(OVER_MAX_WIRES, 0);
+        }
+        if !has_room(
+            self.num_read,
+            self.num_eval,
+            values.len(),
+            counts.len(),
+            nodes.len(),
+        ) {
+            return Tested::Refused(SHORT_BUFFER, 0);
+        }
+        if first_over(values, 0, 2 * num_wires) < 2 * num_wires {
+            return Tested::Refused(NOT_IN_FIELD, 0);
+        }
+        let cells = READ_CELLS * self.num_read as usize + EVAL_CELLS * self.num_eval as usize;
+        if first_over(nodes, 0, cells) < cells {
+            return Tested::Refused(NOT_IN_FIELD, 0);
+        }
+        if P <= self.id_next {
+            return Tested::Refused(NOT_IN_FIELD, 0);
+        }
+        Tested::Passed
     }
 }

@@ -11,7 +11,8 @@ ghost use Rattle.trace.specs.Counts.{mostWires, ofCounts, room};
 ghost use Rattle.trace.specs.State.{wiresOf, madeOf, nextId, sound, readTurn, evalTurn};
 ghost use Rattle.trace.specs.Read.{readTests, readHanded};
 ghost use Rattle.trace.specs.Eval.{evalTests};
-ghost use Rattle.trace.specs.Inside.{testedTold};
+ghost use Rattle.trace.specs.Output.{headerOf};
+ghost use Rattle.trace.specs.Record.{testedTold};
 use crate::BAD_EVAL_COUNT;
 use crate::BAD_READ_COUNT;
 use crate::CircuitEvaluation;
@@ -19,6 +20,7 @@ use crate::EVAL_CELLS;
 use crate::MAX_EVAL_CIRCUIT_WIRES;
 use crate::OUT_OF_TURN;
 use crate::READ_CELLS;
+use crate::RecordHeader;
 use crate::SHORT_BUFFER;
 use crate::TOO_MANY_WIRES;
 use crate::Tested;
@@ -79,6 +81,18 @@ fn first_over(ptr: u64, word: [[u64; 2]; 2]) -> u64
 }
 
 impl CircuitEvaluation {
+    pub(crate) fn header(self) -> RecordHeader
+        ensures { λ r. ⌜ r ≡ headerOf self ⌝ }
+    {
+        RecordHeader {
+            ctx: self.ctx,
+            clk: self.clk,
+            num_read: self.num_read,
+            num_eval: self.num_eval,
+            id_next: self.id_next,
+        }
+    }
+
     pub(crate) fn num_wires(self) -> usize
         ensures { λ r. ⌜ r ≡ wiresOf self ⌝ }
     {

@@ -10,7 +10,7 @@ use lib.ListN.{length}
 use borrow.Author.Needs.{needs}
 use Rattle.field.specs.Field.{firstOver}
 use Rattle.field.specs.Told.{accepted}
-use Rattle.trace.specs.Inside.{testedTold}
+use Rattle.trace.specs.Record.{testedTold}
 use Rattle.trace.specs.Open.{opened, openTold}
 use Rattle.trace.specs.Outcome.{Lent, lent}
 use Rattle.trace.specs.Counts.{room}

@@ -9,7 +9,8 @@ use borrow.Author.Needs.{needs}
 use Rattle.field.specs.Told.{accepted}
 use Rattle.instruction.specs.declared.Op.{Op}
 use Rattle.instruction.specs.Decode.{opNumber, decodeTold, decodeAnswer}
-use Rattle.trace.specs.Inside.{testedTold, operandTold, countsAfter, Room, EvalReady}
+use Rattle.trace.specs.Record.{testedTold}
+use Rattle.trace.specs.Inside.{operandTold, countsAfter, Room, EvalReady}
 use Rattle.trace.specs.Eval.{evalTests, position, operandAnswer, operand}
 use Rattle.trace.specs.Outcome.{Lent, lent, fits}
 use Rattle.trace.specs.State.{wiresOf}

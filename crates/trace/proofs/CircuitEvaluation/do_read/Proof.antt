@@ -7,7 +7,8 @@ use denote.Ref.{now}
 use borrow.Author.Needs.{needs}
 use Rattle.field.specs.Told.{accepted}
 use Rattle.trace.specs.Read.{readTests}
-use Rattle.trace.specs.Inside.{testedTold, Room, ReadReady}
+use Rattle.trace.specs.Record.{testedTold}
+use Rattle.trace.specs.Inside.{Room, ReadReady}
 use Rattle.trace.specs.declared.CircuitEvaluation.{CircuitEvaluation}
 use Rattle.trace.specs.Outcome.{Lent, lent, fits}
 use Rattle.trace.proofs.Ways.{read-refused, read-ready, read-accepted}

@@ -5,7 +5,7 @@ use Prim.Native.Nat.{ℕ}
 use lib.Dec.{eqb}
 use borrow.Author.Tests.{not-true, not-false}
 use borrow.Author.Needs.{needs}
-use Rattle.trace.specs.Inside.{testedTold}
+use Rattle.trace.specs.Record.{testedTold}
 use Rattle.trace.specs.State.{nextId}
 use Rattle.trace.proofs.Tests.{bad-counts, reads-past, evals-past, out-of-order, sound-by-id}
 use Rattle.trace.proofs.CircuitEvaluation.is_sound.Tie as tie

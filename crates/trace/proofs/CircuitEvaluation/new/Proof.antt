@@ -4,7 +4,7 @@ use mathlib.Core.Path.{sym, ap, _∙_}
 use native.Mathlib.Omega.{arith}
 use borrow.Author.Tests.{not-true, not-false}
 use borrow.Author.Needs.{needs}
-use Rattle.trace.specs.Inside.{testedTold}
+use Rattle.trace.specs.Record.{testedTold}
 use Rattle.trace.proofs.StepTests.{open-refused, open-short, open-opened}
 use Rattle.trace.proofs.Tests.{counts-of}
 use Rattle.trace.proofs.CircuitEvaluation.new.Tie as tie

@@ -8,8 +8,8 @@ use native.Mathlib.Nat.{mul-zero, mul-suc, mul-le-mul-left}
 use native.Mathlib.Omega.{arith}
 use lib.ListN.{length, getD, drop, length-append, length-drop, List·getD-append}
 use lib.Seq.{getD-append-add, getD-drop}
 use Rattle.field.proofs.Cases.{below?}
-use Rattle.eval_circuit.specs.Evaluated.{each}
+use Rattle.field.specs.Lists.{each}
 
 pub each-none : (f : ℕ → List ℕ) → each f 0 ≡ []
 unfolding each

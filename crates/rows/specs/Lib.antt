@@ -1,0 +1,4 @@
+pub mod Rows
+pub mod Fill
+pub mod ByWire
+pub mod Inside
