@@ -111,15 +111,17 @@ module _ (h : RecordHeader) (b : Lent) where
         let d = passes (room (h .«num_read») (h .«num_eval») (length (b .values)) (length (b .counts)) (length (b .nodes))) _ 6 0 vs (c .1) in
         let e = passes _ _ 17 0 vs (d .1) in
         let f = both _ _ (e .0) in
-        let g = both _ _ (f .1) in
-        (record {
-          some-evals = some (h .«num_eval») (a .0);
-          few = ltb-false _ _ (c .0);
-          fits = room-of _ _ _ _ _ (d .0);
-          values-in = elements-below _ _ (f .0);
-          nodes-in = elements-below _ _ (g .0);
-          id-in = ltb-true _ _ (g .1);
-        }, e .1)
+        let g = both _ _ (f .1) in (
+          record {
+            some-evals = some (h .«num_eval») (a .0);
+            few = ltb-false _ _ (c .0);
+            fits = room-of _ _ _ _ _ (d .0);
+            values-in = elements-below _ _ (f .0);
+            nodes-in = elements-below _ _ (g .0);
+            id-in = ltb-true _ _ (g .1);
+          },
+          e .1,
+        )
 
 module _ (s : CircuitEvaluation) (t : Told) where
   pub not-sound : sound s ≡ false → refused 13 0 ≡ ofFinalized s t
