@@ -2,7 +2,7 @@
 -- Assumes nothing.
 use mathlib.Core.Path.{_≡_, refl, sym, ap, _∙_}
 use mathlib.Core.Bool.{true, false, _&&_}
-use mathlib.Core.List.{List}
+use mathlib.Core.List.{List, []}
 use Prim.Native.Nat.{ℕ, _+_, _-_, _*_, _≤_, _<_}
 use native.Mathlib.Nat.{zero-add, sub-zero}
 use native.Mathlib.Omega.{arith}
@@ -10,7 +10,7 @@ use lib.Dec.{ltb, eqb}
 use lib.ListN.{length, getD, take, drop}
 use lib.Seq.{getD-take}
 use borrow.Author.Tests.{ltb-true, leb-true, ltb-false, eqb-true, eqb-false, lt-ltb, le-ltb, le-leb, lt-leb, eq-eqb, ne-eqb}
-use Rattle.field.specs.Told.{Told, accepted, refused}
+use Rattle.field.specs.Told.{Told, accepted, refused, orElse}
 use Rattle.field.specs.Field.{p, firstOver}
 use Rattle.field.proofs.Over.{over-below}
 use Rattle.trace.specs.declared.CircuitEvaluation.{CircuitEvaluation}
@@ -19,7 +19,7 @@ use Rattle.trace.specs.Counts.{room}
 use Rattle.trace.specs.State.{wiresOf, madeOf, sound}
 use Rattle.trace.specs.Outcome.{Lent}
 use Rattle.trace.specs.Record.{mostRecordWires, recordWires, recordCells, elements, inField, ofRecord, ofFinalized}
-use Rattle.trace.proofs.Choices.{both, both-hold, second-fails, passes, not-stopped}
+use Rattle.trace.proofs.Choices.{both, both-hold, second-fails, passes, not-stopped, stopped-else, passed-else}
 use Rattle.trace.proofs.Tests.{Fits, room-of}
 
 -- a look at the first n cells that ended before them, and one that did not
@@ -122,6 +122,31 @@ module _ (h : RecordHeader) (b : Lent) where
           },
           e .1,
         )
+
+-- whatever comes after the tests
+pub record-else : (h : RecordHeader) (b : Lent) (vs : List ℕ) (t : Told) → ofRecord h b t ≡ orElse (ofRecord h b (accepted vs)) t
+unfolding ofRecord
+record-else h b vs t =
+    stopped-else (eqb (h .«num_eval») 0) 21 0 _ _ t
+    (stopped-else (ltb mostRecordWires (recordWires h)) 19 0 _ _ t
+    (passed-else (room (h .«num_read») (h .«num_eval») (length (b .values)) (length (b .counts)) (length (b .nodes))) 6 0 _ _ t
+    (passed-else (inField h b) 17 0 (accepted vs) t t refl)))
+
+pub record-stops : (h : RecordHeader) (b : Lent) (t : Told) (number place : ℕ) → refused number place ≡ ofRecord h b (accepted []) → refused number place ≡ ofRecord h b t
+record-stops h b t n k e = ap (λ (x : Told). orElse x t) e ∙ sym (record-else h b [] t)
+
+pub record-goes : (h : RecordHeader) (b : Lent) (t : Told) → accepted [] ≡ ofRecord h b (accepted []) → t ≡ ofRecord h b t
+record-goes h b t e = ap (λ (x : Told). orElse x t) e ∙ sym (record-else h b [] t)
+
+pub finalized-else : (s : CircuitEvaluation) (vs : List ℕ) (t : Told) → ofFinalized s t ≡ orElse (ofFinalized s (accepted vs)) t
+unfolding ofFinalized
+finalized-else s vs t = passed-else (sound s) 13 0 _ _ t (passed-else (eqb (madeOf s) (wiresOf s)) 11 0 (accepted vs) t t refl)
+
+pub finalized-stops : (s : CircuitEvaluation) (vs : List ℕ) (t : Told) (number place : ℕ) → refused number place ≡ ofFinalized s (accepted vs) → refused number place ≡ ofFinalized s t
+finalized-stops s vs t n k e = ap (λ (x : Told). orElse x t) e ∙ sym (finalized-else s vs t)
+
+pub finalized-goes : (s : CircuitEvaluation) (vs ws : List ℕ) (t : Told) → accepted ws ≡ ofFinalized s (accepted vs) → t ≡ ofFinalized s t
+finalized-goes s vs ws t e = ap (λ (x : Told). orElse x t) e ∙ sym (finalized-else s vs t)
 
 module _ (s : CircuitEvaluation) (t : Told) where
   pub not-sound : sound s ≡ false → refused 13 0 ≡ ofFinalized s t
