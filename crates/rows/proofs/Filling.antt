@@ -45,13 +45,13 @@ row-next f wide offset i rows ec ea eb =
 pub all-rows : (f : ℕ → List ℕ) (offset n i : ℕ) (rows after : List ℕ) → after ≡ sets rows (16 * offset) (each f i) → i ≡ n → after ≡ sets rows (16 * offset) (each f n)
 all-rows f offset n i rows after e q = e ∙ ap (λ (k : ℕ). sets rows (16 * offset) (each f k)) q
 
-module _ (h : RecordHeader) (b : Lent) (offset : ℕ) (rows : List ℕ) where
-  -- a record that passed its tests
-  pub held : accepted [] ≡ ofRecord h b (accepted []) → Held h (b .counts) (b .nodes)
-  held e =
-      let r = record-of h b (accepted []) [] (sym e) .0 in
-      record { few = r .few; some-evals = r .some-evals; held-counts = r .fits .for-counts; held-nodes = r .fits .for-nodes }
+-- a record that passed its tests
+pub held : (h : RecordHeader) (b : Lent) → accepted [] ≡ ofRecord h b (accepted []) → Held h (b .counts) (b .nodes)
+held h b e =
+    let r = record-of h b (accepted []) [] (sym e) .0 in
+    record { few = r .few; some-evals = r .some-evals; held-counts = r .fits .for-counts; held-nodes = r .fits .for-nodes }
 
+module _ (h : RecordHeader) (b : Lent) (offset : ℕ) (rows : List ℕ) where
   kept : (number place : ℕ) → refused number place ≡ fillAnswer h b offset rows → rows ≡ filledRows h b offset rows
   kept n k e = ap (λ (t : Told). changed t (rowsWritten h b offset rows) rows) e
 

@@ -1,38 +1,32 @@
+-- `rows::fill_state` meets its contract.
+-- Assumes nothing.
+use mathlib.Core.Path.{sym, ap, _∙_}
 use borrow.Author.Needs.{needs}
-use Rattle.rows.proofs.fill_state.Statement.{statement}
+use Rattle.trace.specs.Record.{headerTold}
+use Rattle.rows.proofs.Filling.{state-stops, state-fills}
 use Rattle.rows.proofs.fill_state.Tie as tie
-use Rattle.rows.proofs.fill_state.Reads as reads
-use Rattle.rows.proofs.fill_state.Lts as lts
-use Rattle.rows.proofs.fill.Reads as fill-reads
-use Rattle.trace.proofs.CircuitEvaluation.finalized.Reads as finalized-reads
+use Rattle.rows.proofs.fill_state.Statement.{statement}
 
--- src/lib.rt:71:9
 finalized-requires : tie.Need-finalized-requires
 finalized-requires c κs = search needs
 
--- src/lib.rt:73:30
 enum-known-finalized : tie.Need-enum-known-finalized
 enum-known-finalized c = search needs
 
--- src/lib.rt:73:41
 fill-requires : tie.Need-fill-requires
 fill-requires c κs = search needs
 
--- src/lib.rt:74:31
 enum-known-finalized-2 : tie.Need-enum-known-finalized-2
 enum-known-finalized-2 c = search needs
 
--- src/lib.rt:60:1
 same-length : tie.Need-same-length
 same-length c = search needs
 
--- src/lib.rt:60:1
 returns : tie.Need-returns
-returns c = ?
+returns c = state-fills _ _ _ _ _ _ _ (ap headerTold (sym (c .before .before .before .before .before .finalized2 .given .1)) ∙ c .before .before .before .before .before .before .before .finalized .ensures) (c .before .before .fill .ensures .0) (c .before .before .fill .ensures .1)
 
--- src/lib.rt:60:1
 returns-2 : tie.Need-returns-2
-returns-2 c = ?
+returns-2 c = state-stops _ _ _ _ _ _ (ap headerTold (sym (c .before .finalized3 .given .1)) ∙ c .before .before .before .finalized .ensures)
 
 pub fill-state-spec : {M : Type 1} → statement M
 fill-state-spec =
