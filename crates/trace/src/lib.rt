@@ -1,5 +1,6 @@
 // Wires and steps: a circuit is evaluated one READ or EVAL step at a time, over lent value cells,
 // counts and node cells. The state goes in by value and comes back with the answer.
+pub mod counts;
 mod nodes;
 mod operation;
 mod state;
@@ -16,9 +17,9 @@ ghost use Rattle.trace.specs.Read.{readStep};
 ghost use Rattle.trace.specs.Eval.{evalStep};
 ghost use Rattle.trace.specs.Output.{outputTold, outputAnswer};
 ghost use Rattle.trace.specs.Record.{testedTold, headerTold, ofRecord, finalizedAnswer};
+use crate::counts::test_counts;
 use crate::operation::before;
 use crate::state::has_room;
-use crate::state::test_counts;
 use crate::wire_bus::Operand;
 use field::P;
 use field::cells::first_over;

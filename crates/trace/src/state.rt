@@ -7,40 +7,22 @@ ghost use Prim.Native.Nat.{_≤_, _<_};
 ghost use Rattle.field.specs.Told.{accepted};
 ghost use Rattle.field.specs.Field.{p, firstOver};
 ghost use Rattle.field.specs.Answer.{ofElements};
-ghost use Rattle.trace.specs.Counts.{mostWires, ofCounts, room};
+ghost use Rattle.trace.specs.Counts.{room};
 ghost use Rattle.trace.specs.State.{wiresOf, madeOf, nextId, sound, readTurn, evalTurn};
 ghost use Rattle.trace.specs.Read.{readTests, readHanded};
 ghost use Rattle.trace.specs.Eval.{evalTests};
 ghost use Rattle.trace.specs.Output.{headerOf};
 ghost use Rattle.trace.specs.Record.{testedTold};
-use crate::BAD_EVAL_COUNT;
-use crate::BAD_READ_COUNT;
 use crate::CircuitEvaluation;
 use crate::EVAL_CELLS;
-use crate::MAX_EVAL_CIRCUIT_WIRES;
 use crate::OUT_OF_TURN;
 use crate::READ_CELLS;
 use crate::RecordHeader;
 use crate::SHORT_BUFFER;
-use crate::TOO_MANY_WIRES;
 use crate::Tested;
+use crate::counts::test_counts;
 use field::NOT_ELEMENT;
 use field::P;
-
-pub fn test_counts(num_read: u32, num_eval: u32) -> Tested
-    ensures { λ r. ⌜ testedTold r ≡ ofCounts mostWires «num_read» «num_eval» (accepted []) ⌝ }
-{
-    if (MAX_EVAL_CIRCUIT_WIRES as u64) < 2 * num_read as u64 + num_eval as u64 {
-        return Tested::Refused(TOO_MANY_WIRES, 0);
-    }
-    if num_read == 0 {
-        return Tested::Refused(BAD_READ_COUNT, 0);
-    }
-    if num_eval == 0 {
-        return Tested::Refused(BAD_EVAL_COUNT, 0);
-    }
-    Tested::Passed
-}
 
 // Whether buffers of these lengths hold the whole circuit.
 pub fn has_room(num_read: u32, num_eval: u32, values: usize, counts: usize, nodes: usize) -> bool

@@ -1,9 +1,9 @@
--- `trace::state::test_counts` meets its contract.
+-- `trace::counts::test_counts` meets its contract.
 -- Assumes nothing.
 use borrow.Author.Needs.{needs}
 use Rattle.trace.proofs.Tests.{too-many, no-reads, no-evals, counts-in-order}
-use Rattle.trace.proofs.state.test_counts.Tie as tie
-use Rattle.trace.proofs.state.test_counts.Statement.{statement}
+use Rattle.trace.proofs.counts.test_counts.Tie as tie
+use Rattle.trace.proofs.counts.test_counts.Statement.{statement}
 
 cast-if1 : tie.Need-cast-if1
 cast-if1 c = search needs
