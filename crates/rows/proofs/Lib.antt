@@ -1,0 +1,6 @@
+pub mod WireRows
+pub mod AcceptedRecord
+pub mod EvaluatedRows
+pub mod WireValues
+pub mod RowSecrets
+pub mod TwinRows
