@@ -1,7 +1,8 @@
 -- The rows of an accepted evaluation: what its record fills is what its circuit says, wire by wire.
 -- Assumes nothing.
-use mathlib.Core.Path.{_≡_, ap, ap₂, _∙_}
+use mathlib.Core.Path.{_≡_, sym, ap, ap₂, _∙_}
 use mathlib.Core.List.{List, [], _++_}
+use mathlib.Core.Logic.{⊎-elim}
 use Prim.Native.Nat.{ℕ, _+_, _*_, _/_, _≤_, _<_}
 use native.Mathlib.Omega.{arith}
 use lib.ListN.{length, getD}
@@ -9,6 +10,7 @@ use lib.Seq.{sets, length-sets}
 use borrow.Author.Tests.{le-leb, lt-leb}
 use Rattle.field.specs.Told.{Told, accepted, refused, changed}
 use Rattle.field.specs.Pair.{Pair}
+use Rattle.field.proofs.Cases.{below?}
 use Rattle.field.proofs.Each.{each-equal}
 use Rattle.trace.specs.declared.RecordHeader.{RecordHeader}
 use Rattle.trace.specs.Outcome.{Lent}
@@ -18,6 +20,7 @@ use Rattle.trace.specs.Output.{headerNumbers}
 use Rattle.trace.proofs.Stores.{sets-below, sets-above, sets-in}
 use Rattle.eval_circuit.specs.Circuit.{Circuit, multiplicity}
 use Rattle.eval_circuit.specs.Evaluated.{circuitAt, evalAnswer, idAt, evalBuffers}
+use Rattle.eval_circuit.proofs.Cases.{clash}
 use Rattle.eval_circuit.proofs.Accepted.{Valid, accepted-valid}
 use Rattle.eval_circuit.proofs.Wires.{wire-count, node-read, node-eval}
 use Rattle.rows.specs.Rows.{readRow, evalRow, readRowAt, evalRowAt, recordReadRow, recordEvalRow, recordRows}
@@ -135,21 +138,24 @@ module _ (ctx clk ptr num-vars num-eval : ℕ) (memory : List ℕ) (b : Lent) (h
         record-passes ctx clk ptr num-vars num-eval memory b h e _
         ∙ ap (λ (x : RecordHeader). ofRows offset (x .«num_read» + x .«num_eval») (length rows) (accepted [])) is-made
 
-    -- it is filled where the row buffer holds its rows from the offset on
+    -- it is filled exactly where the row buffer holds its rows from the offset on
     pub fill-accepted : 16 * (offset + num-rows) ≤ length rows → fillAnswer h after offset rows ≡ accepted []
     fill-accepted l = fill-tests ∙ enough-rows offset num-rows (length rows) (accepted []) l
 
-    -- and refused 14 where it does not
+    -- and else refused 14
     pub fill-refused : length rows < 16 * (offset + num-rows) → fillAnswer h after offset rows ≡ refused 14 0
     fill-refused l = fill-tests ∙ short-rows offset num-rows (length rows) (accepted []) l
 
-    -- then the row buffer has the rows of the circuit, from the offset on
+    pub fill-needs : fillAnswer h after offset rows ≡ accepted [] → 16 * (offset + num-rows) ≤ length rows
+    fill-needs q = ⊎-elim (λ l. clash (sym (fill-refused l) ∙ q)) (λ l. l) (below? (length rows) (16 * (offset + num-rows)))
+
+    -- filled, the row buffer has the rows of the circuit, from the offset on
     pub filled-by-wire : 16 * (offset + num-rows) ≤ length rows → filledRows h after offset rows ≡ sets rows (16 * offset) (circuitRows ctx clk ptr circuit)
     filled-by-wire l =
         ap (λ (t : Told). changed t (sets rows (16 * offset) (recordRows h after)) rows) (fill-accepted l)
         ∙ ap (λ (xs : List ℕ). sets rows (16 * offset) xs) rows-by-wire
 
-    -- and else it stays
+    -- refused, it stays
     pub refused-kept : length rows < 16 * (offset + num-rows) → filledRows h after offset rows ≡ rows
     refused-kept l = ap (λ (t : Told). changed t (sets rows (16 * offset) (recordRows h after)) rows) (fill-refused l)
 
