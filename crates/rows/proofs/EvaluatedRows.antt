@@ -73,7 +73,7 @@ module _ (h : RecordHeader) (cs ns : List ℕ) (at : ℕ) where
         c₀,
       )
 
--- the test of the row buffer, and what a fill leaves, by an answer
+-- the test of the row buffer, 14, both ways
 enough-rows : (offset num-rows len : ℕ) (t : Told) → 16 * (offset + num-rows) ≤ len → ofRows offset num-rows len t ≡ t
 unfolding ofRows
 enough-rows offset num-rows len t h = rw (le-leb (16 * (offset + num-rows)) len h)
@@ -138,11 +138,10 @@ module _ (ctx clk ptr num-vars num-eval : ℕ) (memory : List ℕ) (b : Lent) (h
         record-passes ctx clk ptr num-vars num-eval memory b h e _
         ∙ ap (λ (x : RecordHeader). ofRows offset (x .«num_read» + x .«num_eval») (length rows) (accepted [])) is-made
 
-    -- it is filled exactly where the row buffer holds its rows from the offset on
+    -- it is filled exactly where the row buffer holds its rows from the offset on, and else refused 14
     pub fill-accepted : 16 * (offset + num-rows) ≤ length rows → fillAnswer h after offset rows ≡ accepted []
     fill-accepted l = fill-tests ∙ enough-rows offset num-rows (length rows) (accepted []) l
 
-    -- and else refused 14
     pub fill-refused : length rows < 16 * (offset + num-rows) → fillAnswer h after offset rows ≡ refused 14 0
     fill-refused l = fill-tests ∙ short-rows offset num-rows (length rows) (accepted []) l
 

@@ -68,7 +68,7 @@ module _ (ctx clk ptr num-vars num-eval : ℕ) (first second : List ℕ) (alike 
       (λ i j h l q. read-row-cell ctx clk ptr one i j h l ∙ read-row-same i (leb (16 * (num-vars / 2)) (16 * i + j)) .cell j q ∙ sym (read-row-cell ctx clk ptr two i j h l))
       (λ k j h l q. eval-row-cell ctx clk ptr one k j h l ∙ eval-row-same k h .cell j q ∙ sym (eval-row-cell ctx clk ptr two k j h l))
 
-  -- a circuit's rows are those of the record
+  -- both accepted, each with its header
   module _ (b : Lent) (h k : RecordHeader)
       (e : evalAnswer ctx clk ptr num-vars num-eval first b ≡ accepted (headerNumbers h))
       (f : evalAnswer ctx clk ptr num-vars num-eval second b ≡ accepted (headerNumbers k)) where

@@ -26,7 +26,7 @@ pub record SameBuffers (offset num-read num-eval : ℕ) (first second : List ℕ
   pub same-before : (k : ℕ) → k < 16 * offset → getD first k 0 ≡ getD second k 0
   pub same-behind : (k : ℕ) → 16 * (offset + (num-read + num-eval)) ≤ k → getD first k 0 ≡ getD second k 0
 
--- which cell of a row is a wire value: of an EVAL row, or of a READ row
+-- which cell of a row is a wire value, of an EVAL row (true) or of a READ row (false)
 abbrev pub hidden : Bool → ℕ → Bool
 hidden evals j = (eqb j 7 || eqb j 8) || ((eqb j 10 || eqb j 11) || (evals && (eqb j 13 || eqb j 14)))
 
