@@ -26,6 +26,7 @@ use Rattle.eval_circuit.proofs.Wires.{wire-count, node-read, node-eval}
 use Rattle.rows.specs.Rows.{readRow, evalRow, readRowAt, evalRowAt, recordReadRow, recordEvalRow, recordRows}
 use Rattle.rows.specs.Fill.{ofRows, fillAnswer, filledRows}
 use Rattle.rows.specs.ByWire.{wireReadRow, wireEvalRow, circuitRows}
+use Rattle.rows.proofs.Filling.{enough-rows, short-rows}
 use Rattle.rows.proofs.WireRows.{circuit-rows-length}
 use Rattle.rows.proofs.AcceptedRecord.{evalHeader, answered-header, record-passes}
 
@@ -33,10 +34,6 @@ use Rattle.rows.proofs.AcceptedRecord.{evalHeader, answered-header, rec
 module _ (h : RecordHeader) (cs ns : List ℕ) (at : ℕ) where
   at-first : (x : ℕ) → getD ns (at + 0) 0 ≡ x → getD ns at 0 ≡ x
   at-first x e = let z : at ≡ at + 0 = omega arith in ap (λ (k : ℕ). getD ns k 0) z ∙ e
-
-  -- the second cell of the pair from a place on
-  at-high : (k x : ℕ) → getD ns (at + (k + 1)) 0 ≡ x → getD ns (at + k + 1) 0 ≡ x
-  at-high k x e = let z : at + k + 1 ≡ at + (k + 1) = omega arith in ap (λ (i : ℕ). getD ns i 0) z ∙ e
 
   read-row-of : (i ptr id₀ id₁ m₀ m₁ : ℕ) (v₀ v₁ : Pair) → ((j : ℕ) → j < 7 → getD ns (at + j) 0 ≡ getD (readNode ptr id₀ v₀ id₁ v₁) j 0)
       → getD cs (2 * i) 0 ≡ m₀ → getD cs (2 * i + 1) 0 ≡ m₁
@@ -46,10 +43,10 @@ module _ (h : RecordHeader) (cs ns : List ℕ) (at : ℕ) where
         at-first _ (node 0 (omega arith)),
         node 1 (omega arith),
         node 2 (omega arith),
-        at-high 2 _ (node 3 (omega arith)),
+        node 3 (omega arith),
         node 4 (omega arith),
         node 5 (omega arith),
-        at-high 5 _ (node 6 (omega arith)),
+        node 6 (omega arith),
         c₀,
         c₁,
       )
@@ -63,24 +60,15 @@ module _ (h : RecordHeader) (cs ns : List ℕ) (at : ℕ) where
         node 1 (omega arith),
         node 2 (omega arith),
         node 3 (omega arith),
-        at-high 3 _ (node 4 (omega arith)),
+        node 4 (omega arith),
         node 5 (omega arith),
         node 6 (omega arith),
-        at-high 6 _ (node 7 (omega arith)),
+        node 7 (omega arith),
         node 8 (omega arith),
         node 9 (omega arith),
-        at-high 9 _ (node 10 (omega arith)),
+        node 10 (omega arith),
         c₀,
       )
-
--- the test of the row buffer, 14, both ways
-enough-rows : (offset num-rows len : ℕ) (t : Told) → 16 * (offset + num-rows) ≤ len → ofRows offset num-rows len t ≡ t
-unfolding ofRows
-enough-rows offset num-rows len t h = rw (le-leb (16 * (offset + num-rows)) len h)
-
-short-rows : (offset num-rows len : ℕ) (t : Told) → len < 16 * (offset + num-rows) → ofRows offset num-rows len t ≡ refused 14 0
-unfolding ofRows
-short-rows offset num-rows len t h = rw (lt-leb (16 * (offset + num-rows)) len h)
 
 -- an evaluation that is accepted with a header
 module _ (ctx clk ptr num-vars num-eval : ℕ) (memory : List ℕ) (b : Lent) (h : RecordHeader)
@@ -140,10 +128,10 @@ module _ (ctx clk ptr num-vars num-eval : ℕ) (memory : List ℕ) (b : Lent) (h
 
     -- it is filled exactly where the row buffer holds its rows from the offset on, and else refused 14
     pub fill-accepted : 16 * (offset + num-rows) ≤ length rows → fillAnswer h after offset rows ≡ accepted []
-    fill-accepted l = fill-tests ∙ enough-rows offset num-rows (length rows) (accepted []) l
+    fill-accepted l = fill-tests ∙ sym (enough-rows offset num-rows (length rows) (accepted []) l)
 
     pub fill-refused : length rows < 16 * (offset + num-rows) → fillAnswer h after offset rows ≡ refused 14 0
-    fill-refused l = fill-tests ∙ short-rows offset num-rows (length rows) (accepted []) l
+    fill-refused l = fill-tests ∙ sym (short-rows offset num-rows (length rows) (accepted []) l)
 
     pub fill-needs : fillAnswer h after offset rows ≡ accepted [] → 16 * (offset + num-rows) ≤ length rows
     fill-needs q = ⊎-elim (λ l. clash (sym (fill-refused l) ∙ q)) (λ l. l) (below? (length rows) (16 * (offset + num-rows)))
