@@ -1,0 +1,102 @@
+-- `record::find::find` meets its contract.
+-- Assumes nothing.
+use borrow.Author.Needs.{needs}
+use Rattle.record.proofs.find.find.Statement.{statement}
+use Rattle.record.proofs.find.find.Tie as tie
+
+find-head-requires : tie.Need-find-head-requires
+find-head-requires c κs = search needs
+
+enum-known-head : tie.Need-enum-known-head
+enum-known-head c = search needs
+
+enum-told : tie.Need-enum-told
+enum-told c = search needs
+
+returns : tie.Need-returns
+returns c = search needs
+
+find-wire-list-requires : tie.Need-find-wire-list-requires
+find-wire-list-requires c κs = search needs
+
+enum-known-wires : tie.Need-enum-known-wires
+enum-known-wires c = search needs
+
+enum-told-2 : tie.Need-enum-told-2
+enum-told-2 c = search needs
+
+returns-2 : tie.Need-returns-2
+returns-2 c = search needs
+
+find-declared-requires : tie.Need-find-declared-requires
+find-declared-requires c κs = search needs
+
+enum-known-count : tie.Need-enum-known-count
+enum-known-count c = search needs
+
+enum-told-3 : tie.Need-enum-told-3
+enum-told-3 c = search needs
+
+returns-3 : tie.Need-returns-3
+returns-3 c = search needs
+
+find-nodes-requires : tie.Need-find-nodes-requires
+find-nodes-requires c κs = search needs
+
+enum-known-reads : tie.Need-enum-known-reads
+enum-known-reads c = search needs
+
+enum-told-4 : tie.Need-enum-told-4
+enum-told-4 c = search needs
+
+returns-4 : tie.Need-returns-4
+returns-4 c = search needs
+
+mul-used : tie.Need-mul-used
+mul-used c = search needs
+
+find-nodes-requires-2 : tie.Need-find-nodes-requires-2
+find-nodes-requires-2 c κs = search needs
+
+enum-known-evals : tie.Need-enum-known-evals
+enum-known-evals c = search needs
+
+enum-told-5 : tie.Need-enum-told-5
+enum-told-5 c = search needs
+
+returns-5 : tie.Need-returns-5
+returns-5 c = search needs
+
+find-end-requires : tie.Need-find-end-requires
+find-end-requires c κs = search needs
+
+returns-6 : tie.Need-returns-6
+returns-6 c = search needs
+
+pub find-spec : {M : Type 1} → statement M
+find-spec =
+    tie.close
+    (tie.spec
+    find-head-requires
+    enum-known-head
+    enum-told
+    returns
+    find-wire-list-requires
+    enum-known-wires
+    enum-told-2
+    returns-2
+    find-declared-requires
+    enum-known-count
+    enum-told-3
+    returns-3
+    find-nodes-requires
+    enum-known-reads
+    enum-told-4
+    returns-4
+    mul-used
+    find-nodes-requires-2
+    enum-known-evals
+    enum-told-5
+    returns-5
+    find-end-requires
+    returns-6)
