@@ -7,3 +7,5 @@ pub mod Tests
 pub mod CellLoads
 pub mod WireLoads
 pub mod Loads
+pub mod Fields
+pub mod Standing

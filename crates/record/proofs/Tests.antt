@@ -19,7 +19,7 @@ use Rattle.record.specs.Numbers.{numberAt, nextAt, after, numbersAnswer}
 use Rattle.record.specs.Reading.{u32, withinRoom, declaredAnswer, nodesAnswer, endAnswer}
 use Rattle.record.proofs.Ways.{goes-on, stops, passed}
 use Rattle.record.proofs.Places.{number-is, next-is}
-use Rattle.record.proofs.Numbers.{place-after, numbers-accepted}
+use Rattle.record.proofs.Numbers.{place-after}
 
 both-are : (v next w place : ℕ) → accepted (v ∷ next ∷ []) ≡ accepted (w ∷ place ∷ []) → (w ≡ v) × (place ≡ next)
 both-are v next w place e = (cc, cc)
@@ -85,12 +85,6 @@ no-node-room used width nodes len u w h =
     let q : nodes - used < len * width = div-lt-iff-lt-mul {k = width} {x = nodes - used} {y = len} w .0 h in
     omega (arith, q, mul-comm width len)
 
--- a list of nodes with room for it
-pub record Noded (used width nodes : ℕ) (s : List ℕ) (at len next : ℕ) : Type 0 where
-  pub len-is : len ≡ numberAt s at
-  pub end-is : next ≡ after (width * numberAt s at) s (nextAt s at)
-  pub room : used + width * numberAt s at ≤ nodes
-
 module _ (used width nodes : ℕ) (s : List ℕ) (at : ℕ) where
   pub len-off : (number place : ℕ) → readAnswer s at ≡ refused number place → refused number place ≡ nodesAnswer used width nodes s at
   unfolding nodesAnswer
@@ -119,14 +113,21 @@ module _ (used width nodes : ℕ) (s : List ℕ) (at : ℕ) where
           ∙ sym (goes-on _ (accepted (len ∷ after (width * len) s cells-at ∷ [])) (v ∷ next ∷ []) f)
           ∙ cells-first
 
-  pub nodes-accepted : (len next : ℕ) → nodesAnswer used width nodes s at ≡ accepted (len ∷ next ∷ []) → Noded used width nodes s at len next
+  nodes-known : (vs : List ℕ) → nodesAnswer used width nodes s at ≡ accepted vs
+      → (used + width * numberAt s at ≤ nodes) × (accepted (numberAt s at ∷ after (width * numberAt s at) s (nextAt s at) ∷ []) ≡ accepted vs)
   unfolding nodesAnswer
-  nodes-accepted len next e =
-      let a = passed (readAnswer s at) (cellTests used width nodes s (numberAt s at) (nextAt s at)) (len ∷ next ∷ []) e in
-      let b = passes (leb (used + width * numberAt s at) nodes) _ 24 0 (len ∷ next ∷ []) (a .then) in
-      let d = passed (numbersAnswer p (width * numberAt s at) s (nextAt s at)) (accepted (numberAt s at ∷ after (width * numberAt s at) s (nextAt s at) ∷ [])) (len ∷ next ∷ []) (b .1) in
-      let f = both-are _ _ len next (d .then) in
-      record { len-is = f .0; end-is = f .1; room = leb-true _ _ (b .0) }
+  nodes-known vs e =
+      let a = passed (readAnswer s at) (cellTests used width nodes s (numberAt s at) (nextAt s at)) vs e in
+      let b = passes (leb (used + width * numberAt s at) nodes) _ 24 0 vs (a .then) in
+      let d = passed (numbersAnswer p (width * numberAt s at) s (nextAt s at)) (accepted (numberAt s at ∷ after (width * numberAt s at) s (nextAt s at) ∷ [])) vs (b .1) in
+      (leb-true _ _ (b .0), d .then)
+
+  -- nodes that are accepted have room, and end where their cells end
+  pub nodes-fit : (vs : List ℕ) → nodesAnswer used width nodes s at ≡ accepted vs → used + width * numberAt s at ≤ nodes
+  nodes-fit vs e = nodes-known vs e .0
+
+  pub nodes-accepted : (len next : ℕ) → nodesAnswer used width nodes s at ≡ accepted (len ∷ next ∷ []) → (len ≡ numberAt s at) × (next ≡ after (width * numberAt s at) s (nextAt s at))
+  nodes-accepted len next e = both-are _ _ len next (nodes-known (len ∷ next ∷ []) e .1)
 
 module _ (reads evals declared end len : ℕ) where
   pub no-evals : evals ≡ 0 → refused 21 0 ≡ endAnswer reads evals declared end len
