@@ -11,11 +11,11 @@ use Rattle.record.specs.Numbers.{numberAt, nextAt, after, numbersFrom}
 use Rattle.record.proofs.Places.{after-none, after-more, from-none, from-more}
 
 -- two runs of stores, one behind the other
-pub sets-append : (xs ys l : List ℕ) (i : ℕ) → sets l i (xs ++ ys) ≡ sets (sets l i xs) (i + length xs) ys
-sets-append [] ys l i = ap (λ (j : ℕ). sets l j ys) (sym (add-zero i))
+pub sets-append : (xs ys l : List ℕ) (i : ℕ) → sets (sets l i xs) (i + length xs) ys ≡ sets l i (xs ++ ys)
+sets-append [] ys l i = ap (λ (k : ℕ). sets l k ys) (add-zero i)
 sets-append (x ∷ xs) ys l i =
-    let e : suc i + length xs ≡ i + suc (length xs) = omega arith in
-    sets-append xs ys (set l i x) (suc i) ∙ ap (λ (j : ℕ). sets (sets (set l i x) (suc i) xs) j ys) e
+    let e : i + suc (length xs) ≡ suc i + length xs = omega arith in
+    ap (λ (k : ℕ). sets (sets (set l i x) (suc i) xs) k ys) e ∙ sets-append xs ys (set l i x) (suc i)
 
 pub record Loading (s : List ℕ) (at n : ℕ) (old : List ℕ) (from : ℕ) (cells : List ℕ) (next i : ℕ) : Type 0 where
   pub within : i ≤ n

@@ -6,7 +6,7 @@ use mathlib.Core.List.{List, [], _∷_}
 use native.Mathlib.Omega.{arith}
 use lib.ListN.{length}
 use Rattle.field.specs.Told.{Told, accepted, refused, orElse}
-use Rattle.record.specs.Numbers.{after, nextAt}
+use Rattle.record.specs.Numbers.{after}
 use Rattle.record.specs.Reading.{
   wiresIn,
   wiresAt,

@@ -13,7 +13,7 @@ use Rattle.trace.proofs.Choices.{both, both-hold, first-fails, second-fails, pa
 use Rattle.record.specs.Numbers.{after, numbersAnswer}
 use Rattle.record.specs.Reading.{u32, wiresIn, wiresAt, headAnswer, wiresAnswer, wireListAnswer}
 use Rattle.record.specs.Inside.{Wires}
-use Rattle.record.proofs.Ways.{goes-on, stops, passed}
+use Rattle.record.proofs.Ways.{values-are, goes-on, stops, passed}
 use Rattle.record.proofs.Places.{number-is, next-is, after-add}
 use Rattle.record.proofs.Numbers.{place-after}
 use Rattle.record.proofs.Wires.{wires-accepted}
@@ -82,7 +82,4 @@ module _ (n : ℕ) (s : List ℕ) (at values counts : ℕ) where
       (record { room-values = leb-true _ _ (b .0); room-counts = leb-true _ _ (b .1); stand = wires-accepted s n at vs (a .1) }, a .1)
 
   pub list-end : (v next : ℕ) → wireListAnswer n s at values counts ≡ accepted (v ∷ next ∷ []) → next ≡ after (3 * n) s at
-  list-end v next e = let a = list-accepted (v ∷ next ∷ []) e in second v next 0 (after (3 * n) s at) (sym (a .1) ∙ a .0 .stand)
-    where
-      second : (a b c d : ℕ) → accepted (a ∷ b ∷ []) ≡ accepted (c ∷ d ∷ []) → b ≡ d
-      second a b c d q = cc
+  list-end v next e = let a = list-accepted (v ∷ next ∷ []) e in values-are 0 (after (3 * n) s at) v next (sym (a .0 .stand) ∙ a .1) .1

@@ -1,7 +1,7 @@
 -- Loading the nodes, and a whole record whose bytes have all been looked at.
 -- Assumes nothing.
 use Prim.Native.Nat.{ℕ, _+_, _*_}
-use mathlib.Core.Path.{_≡_, refl, sym, ap, ap₂, _∙_}
+use mathlib.Core.Path.{_≡_, sym, ap, ap₂, _∙_}
 use mathlib.Core.List.{List, [], _∷_, _++_}
 use native.Mathlib.Nat.{zero-add}
 use lib.ListN.{length}
@@ -25,7 +25,7 @@ module _ (s : List ℕ) (at : ℕ) where
       let k : 7 * reads ≡ 0 + length (numbersFrom (7 * reads) s next) = sym (zero-add (length (numbersFrom (7 * reads) s next)) ∙ length-from (7 * reads) s next) in
       b
       ∙ ap₂ (λ (l : List ℕ) (i : ℕ). sets l i (numbersFrom (11 * evals) s cells-at)) a k
-      ∙ sym (sets-append (numbersFrom (7 * reads) s next) (numbersFrom (11 * evals) s cells-at) old 0)
+      ∙ sets-append (numbersFrom (7 * reads) s next) (numbersFrom (11 * evals) s cells-at) old 0
       ∙ ap₂ (λ (xs ys : List ℕ). sets old 0 (xs ++ ys))
       (ap₂ (λ (x y : ℕ). numbersFrom (7 * x) s y) e f)
       (ap₂ (λ (x y : ℕ). numbersFrom (11 * x) s y) g h)

@@ -8,11 +8,11 @@ use Rattle.field.specs.Told.{Told, accepted, refused}
 use Rattle.numbers.specs.Answer.{readBelowAnswer}
 use Rattle.numbers.proofs.Below.{below-is-read}
 use Rattle.record.specs.Numbers.{numberAt, nextAt, after, numbersAnswer}
-use Rattle.record.proofs.Ways.{goes-on, stops, passed}
+use Rattle.record.proofs.Ways.{values-are, goes-on, stops, passed}
 use Rattle.record.proofs.Places.{next-is, number-below, after-none, after-more}
 
 module _ (bound : ℕ) (s : List ℕ) where
-  pub no-numbers : (at : ℕ) → numbersAnswer bound 0 s at ≡ accepted (0 ∷ at ∷ [])
+  no-numbers : (at : ℕ) → numbersAnswer bound 0 s at ≡ accepted (0 ∷ at ∷ [])
   unfolding numbersAnswer
   no-numbers at = refl
 
@@ -44,7 +44,7 @@ module _ (bound : ℕ) (s : List ℕ) where
         sym (no-numbers next) ∙ ap (λ (m : ℕ). numbersAnswer bound m s next) (sym k) ∙ q
 
   -- numbers that are accepted end where n numbers end, and the first of them is below the bound
-  pub numbers-accepted : (n at : ℕ) (vs : List ℕ) → numbersAnswer bound n s at ≡ accepted vs → numbersAnswer bound n s at ≡ accepted (0 ∷ after n s at ∷ [])
+  numbers-accepted : (n at : ℕ) (vs : List ℕ) → numbersAnswer bound n s at ≡ accepted vs → numbersAnswer bound n s at ≡ accepted (0 ∷ after n s at ∷ [])
   unfolding numbersAnswer
   numbers-accepted zero at vs e = ap (λ (x : ℕ). accepted (0 ∷ x ∷ [])) (sym (after-none s at))
   numbers-accepted (suc n) at vs e =
@@ -54,10 +54,7 @@ module _ (bound : ℕ) (s : List ℕ) where
       ∙ ap (λ (x : ℕ). accepted (0 ∷ x ∷ [])) (sym (after-more n s at))
 
   pub place-after : (n at v next : ℕ) → numbersAnswer bound n s at ≡ accepted (v ∷ next ∷ []) → next ≡ after n s at
-  place-after n at v next e = second v next 0 (after n s at) (sym e ∙ numbers-accepted n at (v ∷ next ∷ []) e)
-    where
-      second : (a b c d : ℕ) → accepted (a ∷ b ∷ []) ≡ accepted (c ∷ d ∷ []) → b ≡ d
-      second a b c d q = cc
+  place-after n at v next e = values-are 0 (after n s at) v next (sym (numbers-accepted n at (v ∷ next ∷ []) e) ∙ e) .1
 
   pub first-below : (n at : ℕ) (vs : List ℕ) → numbersAnswer bound (suc n) s at ≡ accepted vs → numberAt s at < bound
   unfolding numbersAnswer

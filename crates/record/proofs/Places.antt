@@ -8,7 +8,7 @@ use native.Mathlib.Omega.{arith}
 use lib.Dec.{ltb}
 use lib.ListN.{length, drop}
 use borrow.Author.Tests.{ltb-true}
-use Rattle.field.specs.Told.{Told, accepted, refused}
+use Rattle.field.specs.Told.{accepted, refused}
 use Rattle.numbers.specs.Form.{Found, found, cutOff, notShortest, findFrom}
 use Rattle.numbers.specs.Answer.{foundAt, within, readAnswer, readBelowAnswer}
 use Rattle.trace.proofs.Choices.{passes}
@@ -32,17 +32,7 @@ module _ (s : List ℕ) (at : ℕ) where
   unfolding nextAt
   no-next n k e = ap (nextTold at) (sym e)
 
-  -- what is accepted is the number and the place after it
-  pub read-accepted : (vs : List ℕ) → readAnswer s at ≡ accepted vs → readAnswer s at ≡ accepted (numberAt s at ∷ nextAt s at ∷ [])
-  unfolding readAnswer numberAt nextAt
-  read-accepted vs e = go (findFrom 0 (drop at s)) e
-    where
-      go : (g : Found) → foundAt at g ≡ accepted vs → foundAt at g ≡ accepted (numberTold (foundAt at g) ∷ nextTold at (foundAt at g) ∷ [])
-      go (found v n) q = refl
-      go cutOff q = let z : _≡_ {A = ℕ} 0 1 = cc in absurd (omega arith)
-      go notShortest q = let z : _≡_ {A = ℕ} 0 1 = cc in absurd (omega arith)
-
-  -- and it is below its bound
+  -- a number that is accepted is below its bound
   pub number-below : (bound : ℕ) (vs : List ℕ) → readBelowAnswer bound s at ≡ accepted vs → numberAt s at < bound
   unfolding readBelowAnswer readAnswer numberAt
   number-below bound vs e = go (findFrom 0 (drop at s)) e

@@ -1,7 +1,7 @@
 -- A record that is accepted stands in the bytes, with room for it; and what reading answers and leaves.
 -- Assumes nothing.
 use Prim.Native.Nat.{ℕ, _*_, _≤_}
-use mathlib.Core.Path.{_≡_, sym, ap, _∙_, subst}
+use mathlib.Core.Path.{_≡_, sym, ap, subst}
 use mathlib.Core.List.{List}
 use lib.ListN.{length}
 use Rattle.field.specs.Told.{Told, accepted, refused}

@@ -17,12 +17,9 @@ use Rattle.trace.specs.Record.{mostRecordWires}
 use Rattle.trace.proofs.Choices.{passes, not-stopped}
 use Rattle.record.specs.Numbers.{numberAt, nextAt, after, numbersAnswer}
 use Rattle.record.specs.Reading.{u32, withinRoom, declaredAnswer, nodesAnswer, endAnswer}
-use Rattle.record.proofs.Ways.{goes-on, stops, passed}
+use Rattle.record.proofs.Ways.{values-are, goes-on, stops, passed}
 use Rattle.record.proofs.Places.{number-is, next-is}
 use Rattle.record.proofs.Numbers.{place-after}
-
-both-are : (v next w place : ℕ) → accepted (v ∷ next ∷ []) ≡ accepted (w ∷ place ∷ []) → (w ≡ v) × (place ≡ next)
-both-are v next w place e = (cc, cc)
 
 -- the tests of the declared count, once it is read
 abbrev countTests : ℕ → ℕ → ℕ → Told
@@ -66,7 +63,7 @@ module _ (n : ℕ) (s : List ℕ) (at : ℕ) where
       passes (eqb n (numberAt s at)) _ 20 0 vs (c .1) .1
 
   pub declared-accepted : (d next : ℕ) → declaredAnswer n s at ≡ accepted (d ∷ next ∷ []) → (d ≡ numberAt s at) × (next ≡ nextAt s at)
-  declared-accepted d next e = both-are _ _ d next (declared-known (d ∷ next ∷ []) e)
+  declared-accepted d next e = values-are _ _ d next (declared-known (d ∷ next ∷ []) e)
 
 -- the look at a list of nodes, once its length is read
 abbrev cellTests : ℕ → ℕ → ℕ → List ℕ → ℕ → ℕ → Told
@@ -127,7 +124,7 @@ module _ (used width nodes : ℕ) (s : List ℕ) (at : ℕ) where
   nodes-fit vs e = nodes-known vs e .0
 
   pub nodes-accepted : (len next : ℕ) → nodesAnswer used width nodes s at ≡ accepted (len ∷ next ∷ []) → (len ≡ numberAt s at) × (next ≡ after (width * numberAt s at) s (nextAt s at))
-  nodes-accepted len next e = both-are _ _ len next (nodes-known (len ∷ next ∷ []) e .1)
+  nodes-accepted len next e = values-are _ _ len next (nodes-known (len ∷ next ∷ []) e .1)
 
 module _ (reads evals declared end len : ℕ) where
   pub no-evals : evals ≡ 0 → refused 21 0 ≡ endAnswer reads evals declared end len

@@ -79,7 +79,7 @@ module _ (s : List ℕ) (at n : ℕ) (old-values old-counts : List ℕ) where
           let m : n - k ≡ suc (n - (k + 1)) = omega arith in
           let j : 2 * (k + 1) ≡ 2 * k + length (numbersFrom 2 s next) = omega (arith, length-from 2 s next) in
           ap₂ (λ (x y : ℕ). sets (sets values (2 * k) (numbersFrom 2 s next)) x (valuesFrom (n - (k + 1)) s y)) j third
-          ∙ sym (sets-append (numbersFrom 2 s next) (valuesFrom (n - (k + 1)) s (after 3 s next)) values (2 * k))
+          ∙ sets-append (numbersFrom 2 s next) (valuesFrom (n - (k + 1)) s (after 3 s next)) values (2 * k)
           ∙ ap (sets values (2 * k)) (sym (more-values s next (n - (k + 1))) ∙ ap (λ (x : ℕ). valuesFrom x s next) (sym m))
           ∙ l .stored-values
 

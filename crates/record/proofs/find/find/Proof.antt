@@ -1,12 +1,13 @@
 -- `record::find::find` meets its contract.
 -- Assumes nothing.
-use borrow.Author.Needs.{needs}
-use mathlib.Core.Path.{sym, ap, _∙_}
+use mathlib.Core.Path.{ap, _∙_}
 use native.Mathlib.Omega.{arith}
+use borrow.Author.Needs.{needs}
 use Rattle.numbers.specs.Answer.{readTold}
+use Rattle.record.proofs.Ways.{heard}
 use Rattle.record.proofs.Fields.{reads-fit, off-head, off-list, off-declared, off-reads, off-evals, fields-end}
-use Rattle.record.proofs.find.find.Statement.{statement}
 use Rattle.record.proofs.find.find.Tie as tie
+use Rattle.record.proofs.find.find.Statement.{statement}
 
 find-head-requires : tie.Need-find-head-requires
 find-head-requires c κs = search needs
@@ -19,8 +20,8 @@ enum-told c = search needs
 
 returns : tie.Need-returns
 returns c =
-    let e = ap readTold (c .enum-told .given .1) in
-    e ∙ off-head _ _ _ _ _ _ (sym (c .before .before .find-head .ensures) ∙ e)
+    ap readTold (c .enum-told .given .1)
+    ∙ off-head _ _ _ _ _ _ (heard (c .before .before .find-head .ensures) (c .enum-told .given .1))
 
 find-wire-list-requires : tie.Need-find-wire-list-requires
 find-wire-list-requires c κs = search needs
@@ -33,9 +34,10 @@ enum-told-2 c = search needs
 
 returns-2 : tie.Need-returns-2
 returns-2 c =
-    let e1 = sym (c .before .before .before .before .before .before .find-head .ensures) ∙ ap readTold (c .before .before .before .before .head .given .1) in
-    let e = ap readTold (c .enum-told2 .given .1) in
-    e ∙ off-list _ _ _ _ _ _ e1 _ _ (sym (c .before .before .find-wire-list .ensures) ∙ e)
+    let k1 = c .before .before .before in
+    let e1 = heard (k1 .before .before .before .find-head .ensures) (k1 .before .head .given .1) in
+    ap readTold (c .enum-told2 .given .1)
+    ∙ off-list _ _ _ _ _ _ e1 _ _ (heard (c .before .before .find-wire-list .ensures) (c .enum-told2 .given .1))
 
 find-declared-requires : tie.Need-find-declared-requires
 find-declared-requires c κs = search needs
@@ -48,10 +50,12 @@ enum-told-3 c = search needs
 
 returns-3 : tie.Need-returns-3
 returns-3 c =
-    let e1 = sym (c .before .before .before .before .before .before .before .before .before .before .find-head .ensures) ∙ ap readTold (c .before .before .before .before .before .before .before .before .head .given .1) in
-    let e2 = sym (c .before .before .before .before .before .before .find-wire-list .ensures) ∙ ap readTold (c .before .before .before .before .wires .given .1) in
-    let e = ap readTold (c .enum-told3 .given .1) in
-    e ∙ off-declared _ _ _ _ _ _ e1 _ _ e2 _ _ (sym (c .before .before .find-declared .ensures) ∙ e)
+    let k2 = c .before .before .before in
+    let k1 = k2 .before .before .before .before in
+    let e1 = heard (k1 .before .before .before .find-head .ensures) (k1 .before .head .given .1) in
+    let e2 = heard (k2 .before .before .before .find-wire-list .ensures) (k2 .before .wires .given .1) in
+    ap readTold (c .enum-told3 .given .1)
+    ∙ off-declared _ _ _ _ _ _ e1 _ _ e2 _ _ (heard (c .before .before .find-declared .ensures) (c .enum-told3 .given .1))
 
 find-nodes-requires : tie.Need-find-nodes-requires
 find-nodes-requires c κs = search needs
@@ -64,17 +68,20 @@ enum-told-4 c = search needs
 
 returns-4 : tie.Need-returns-4
 returns-4 c =
-    let e1 = sym (c .before .before .before .before .before .before .before .before .before .before .before .before .before .before .find-head .ensures) ∙ ap readTold (c .before .before .before .before .before .before .before .before .before .before .before .before .head .given .1) in
-    let e2 = sym (c .before .before .before .before .before .before .before .before .before .before .find-wire-list .ensures) ∙ ap readTold (c .before .before .before .before .before .before .before .before .wires .given .1) in
-    let e3 = sym (c .before .before .before .before .before .before .find-declared .ensures) ∙ ap readTold (c .before .before .before .before .count .given .1) in
-    let e = ap readTold (c .enum-told4 .given .1) in
-    e ∙ off-reads _ _ _ _ _ _ e1 _ _ e2 _ _ e3 _ _ (sym (c .before .before .find-nodes .ensures) ∙ e)
+    let k3 = c .before .before .before in
+    let k2 = k3 .before .before .before .before in
+    let k1 = k2 .before .before .before .before in
+    let e1 = heard (k1 .before .before .before .find-head .ensures) (k1 .before .head .given .1) in
+    let e2 = heard (k2 .before .before .before .find-wire-list .ensures) (k2 .before .wires .given .1) in
+    let e3 = heard (k3 .before .before .before .find-declared .ensures) (k3 .before .count .given .1) in
+    ap readTold (c .enum-told4 .given .1)
+    ∙ off-reads _ _ _ _ _ _ e1 _ _ e2 _ _ e3 _ _ (heard (c .before .before .find-nodes .ensures) (c .enum-told4 .given .1))
 
 mul-used : tie.Need-mul-used
-mul-used c = omega (arith, reads-fit _ _ _ _ _ (sym (c .before .before .before .find-nodes .ensures) ∙ ap readTold (c .before .reads .given .1)))
+mul-used c = omega (arith, reads-fit _ _ _ _ _ (heard (c .before .before .before .find-nodes .ensures) (c .before .reads .given .1)))
 
 find-nodes-requires-2 : tie.Need-find-nodes-requires-2
-find-nodes-requires-2 c κs = (reads-fit _ _ _ _ _ (sym (c .before .before .before .find-nodes .ensures) ∙ ap readTold (c .before .reads .given .1)), search needs)
+find-nodes-requires-2 c κs = (reads-fit _ _ _ _ _ (heard (c .before .before .before .find-nodes .ensures) (c .before .reads .given .1)), search needs)
 
 enum-known-evals : tie.Need-enum-known-evals
 enum-known-evals c = search needs
@@ -84,23 +91,32 @@ enum-told-5 c = search needs
 
 returns-5 : tie.Need-returns-5
 returns-5 c =
-    let e1 = sym (c .before .before .before .before .before .before .before .before .before .before .before .before .before .before .before .before .before .before .find-head .ensures) ∙ ap readTold (c .before .before .before .before .before .before .before .before .before .before .before .before .before .before .before .before .head .given .1) in
-    let e2 = sym (c .before .before .before .before .before .before .before .before .before .before .before .before .before .before .find-wire-list .ensures) ∙ ap readTold (c .before .before .before .before .before .before .before .before .before .before .before .before .wires .given .1) in
-    let e3 = sym (c .before .before .before .before .before .before .before .before .before .before .find-declared .ensures) ∙ ap readTold (c .before .before .before .before .before .before .before .before .count .given .1) in
-    let e4 = sym (c .before .before .before .before .before .before .find-nodes .ensures) ∙ ap readTold (c .before .before .before .before .reads .given .1) in
-    let e = ap readTold (c .enum-told5 .given .1) in
-    e ∙ off-evals _ _ _ _ _ _ e1 _ _ e2 _ _ e3 _ _ e4 _ _ (sym (c .before .before .find-nodes2 .ensures) ∙ e)
+    let k4 = c .before .before .before in
+    let k3 = k4 .before .before .before .before in
+    let k2 = k3 .before .before .before .before in
+    let k1 = k2 .before .before .before .before in
+    let e1 = heard (k1 .before .before .before .find-head .ensures) (k1 .before .head .given .1) in
+    let e2 = heard (k2 .before .before .before .find-wire-list .ensures) (k2 .before .wires .given .1) in
+    let e3 = heard (k3 .before .before .before .find-declared .ensures) (k3 .before .count .given .1) in
+    let e4 = heard (k4 .before .before .before .find-nodes .ensures) (k4 .before .reads .given .1) in
+    ap readTold (c .enum-told5 .given .1)
+    ∙ off-evals _ _ _ _ _ _ e1 _ _ e2 _ _ e3 _ _ e4 _ _ (heard (c .before .before .find-nodes2 .ensures) (c .enum-told5 .given .1))
 
 find-end-requires : tie.Need-find-end-requires
 find-end-requires c κs = search needs
 
 returns-6 : tie.Need-returns-6
 returns-6 c =
-    let e1 = sym (c .before .before .before .before .before .before .before .before .before .before .before .before .before .before .before .before .before .before .before .before .find-head .ensures) ∙ ap readTold (c .before .before .before .before .before .before .before .before .before .before .before .before .before .before .before .before .before .before .head .given .1) in
-    let e2 = sym (c .before .before .before .before .before .before .before .before .before .before .before .before .before .before .before .before .find-wire-list .ensures) ∙ ap readTold (c .before .before .before .before .before .before .before .before .before .before .before .before .before .before .wires .given .1) in
-    let e3 = sym (c .before .before .before .before .before .before .before .before .before .before .before .before .find-declared .ensures) ∙ ap readTold (c .before .before .before .before .before .before .before .before .before .before .count .given .1) in
-    let e4 = sym (c .before .before .before .before .before .before .before .before .find-nodes .ensures) ∙ ap readTold (c .before .before .before .before .before .before .reads .given .1) in
-    let e5 = sym (c .before .before .before .before .find-nodes2 .ensures) ∙ ap readTold (c .before .before .evals .given .1) in
+    let k5 = c .before in
+    let k4 = k5 .before .before .before .before in
+    let k3 = k4 .before .before .before .before in
+    let k2 = k3 .before .before .before .before in
+    let k1 = k2 .before .before .before .before in
+    let e1 = heard (k1 .before .before .before .find-head .ensures) (k1 .before .head .given .1) in
+    let e2 = heard (k2 .before .before .before .find-wire-list .ensures) (k2 .before .wires .given .1) in
+    let e3 = heard (k3 .before .before .before .find-declared .ensures) (k3 .before .count .given .1) in
+    let e4 = heard (k4 .before .before .before .find-nodes .ensures) (k4 .before .reads .given .1) in
+    let e5 = heard (k5 .before .before .before .find-nodes2 .ensures) (k5 .before .evals .given .1) in
     c .find-end .ensures ∙ fields-end _ _ _ _ _ _ e1 _ _ e2 _ _ e3 _ _ e4 _ _ e5
 
 pub find-spec : {M : Type 1} → statement M

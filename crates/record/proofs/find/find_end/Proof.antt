@@ -2,8 +2,8 @@
 -- Assumes nothing.
 use borrow.Author.Needs.{needs}
 use Rattle.record.proofs.Tests.{no-evals, over-wires, other-wires, bytes-left, ends}
-use Rattle.record.proofs.find.find_end.Statement.{statement}
 use Rattle.record.proofs.find.find_end.Tie as tie
+use Rattle.record.proofs.find.find_end.Statement.{statement}
 
 returns : tie.Need-returns
 returns c = no-evals _ _ _ _ _ (search needs)

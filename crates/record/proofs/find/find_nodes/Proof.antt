@@ -1,13 +1,14 @@
 -- `record::find::find_nodes` meets its contract.
 -- Assumes nothing.
-use borrow.Author.Needs.{needs}
-use mathlib.Core.Path.{sym, ap, _∙_}
+use mathlib.Core.Path.{ap, _∙_}
 use Prim.Native.Nat.{_+_, _*_, _≤_}
 use native.Mathlib.Omega.{arith}
+use borrow.Author.Needs.{needs}
 use Rattle.numbers.specs.Answer.{readTold}
+use Rattle.record.proofs.Ways.{heard}
 use Rattle.record.proofs.Tests.{node-room, len-off, few-nodes, cells-off, nodes-are}
-use Rattle.record.proofs.find.find_nodes.Statement.{statement}
 use Rattle.record.proofs.find.find_nodes.Tie as tie
+use Rattle.record.proofs.find.find_nodes.Statement.{statement}
 
 abbrev start : tie.Else1 → tie.Start
 start c = c .before .before .before .before .before .before
@@ -26,8 +27,8 @@ enum-told c = search needs
 
 returns : tie.Need-returns
 returns c =
-    let e = ap readTold (c .enum-told .given .1) in
-    e ∙ len-off _ _ _ _ _ _ _ (sym (c .before .before .read .ensures) ∙ e)
+    ap readTold (c .enum-told .given .1)
+    ∙ len-off _ _ _ _ _ _ _ (heard (c .before .before .read .ensures) (c .enum-told .given .1))
 
 sub-if1 : tie.Need-sub-if1
 sub-if1 c = search needs
@@ -36,7 +37,7 @@ div-if1 : tie.Need-div-if1
 div-if1 c = search needs
 
 returns-2 : tie.Need-returns-2
-returns-2 c = few-nodes _ _ _ _ _ _ _ (sym (c .before .before .before .before .read .ensures) ∙ ap readTold (c .before .before .found .given .1)) (search needs) (search needs) (search needs)
+returns-2 c = few-nodes _ _ _ _ _ _ _ (heard (c .before .before .before .before .read .ensures) (c .before .before .found .given .1)) (search needs) (search needs) (search needs)
 
 mul-find-numbers : tie.Need-mul-find-numbers
 mul-find-numbers c = omega (arith, room c)
@@ -52,11 +53,11 @@ enum-told-2 c = search needs
 
 returns-3 : tie.Need-returns-3
 returns-3 c =
-    let e = ap readTold (c .enum-told2 .given .1) in
-    e ∙ cells-off _ _ _ _ _ _ _ (sym (c .before .before .before .before .before .before .before .read .ensures) ∙ ap readTold (c .before .before .before .before .before .found .given .1)) (room (c .before .before .before)) _ _ (sym (c .before .before .find-numbers .ensures) ∙ e)
+    ap readTold (c .enum-told2 .given .1)
+    ∙ cells-off _ _ _ _ _ _ _ (heard (c .before .before .before .before .before .before .before .read .ensures) (c .before .before .before .before .before .found .given .1)) (room (c .before .before .before)) _ _ (heard (c .before .before .find-numbers .ensures) (c .enum-told2 .given .1))
 
 returns-4 : tie.Need-returns-4
-returns-4 c = nodes-are _ _ _ _ _ _ _ (sym (c .before .before .before .before .before .before .before .before .read .ensures) ∙ ap readTold (c .before .before .before .before .before .before .found .given .1)) (room (c .before .before .before .before)) _ _ (sym (c .before .before .before .find-numbers .ensures) ∙ ap readTold (c .before .cells .given .1))
+returns-4 c = nodes-are _ _ _ _ _ _ _ (heard (c .before .before .before .before .before .before .before .before .read .ensures) (c .before .before .before .before .before .before .found .given .1)) (room (c .before .before .before .before)) _ _ (heard (c .before .before .before .find-numbers .ensures) (c .before .cells .given .1))
 
 pub find-nodes-spec : {M : Type 1} → statement M
 find-nodes-spec =

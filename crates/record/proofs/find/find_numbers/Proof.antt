@@ -1,15 +1,16 @@
 -- `record::find::find_numbers` meets its contract.
 -- Assumes nothing.
-use borrow.Author.Needs.{needs}
-use mathlib.Core.Path.{_≡_, sym, ap, _∙_}
+use mathlib.Core.Path.{_≡_, ap, _∙_}
 use Prim.Native.Nat.{ℕ, _-_}
 use native.Mathlib.Nat.{sub-zero}
 use denote.Ref.{now}
+use borrow.Author.Needs.{needs}
 use Rattle.numbers.specs.Answer.{readTold}
 use Rattle.record.specs.Numbers.{numbersAnswer}
+use Rattle.record.proofs.Ways.{heard}
 use Rattle.record.proofs.Numbers.{numbers-on, numbers-off, numbers-end}
-use Rattle.record.proofs.find.find_numbers.Statement.{statement}
 use Rattle.record.proofs.find.find_numbers.Tie as tie
+use Rattle.record.proofs.find.find_numbers.Statement.{statement}
 
 abbrev Inv-loop : tie.InvT-loop
 Inv-loop source at n bound next₀ i₀ next i =
@@ -32,8 +33,8 @@ enum-told c = search needs
 
 returns : tie.Need-returns Inv-loop μ-loop
 returns c =
-    let e = ap readTold (c .enum-told .given .1) in
-    e ∙ numbers-off _ _ _ _ _ _ _ _ (sym (c .before .before .read-below .ensures) ∙ e) (c .before .before .before .before .loop .inv) (search needs)
+    ap readTold (c .enum-told .given .1)
+    ∙ numbers-off _ _ _ _ _ _ _ _ (heard (c .before .before .read-below .ensures) (c .enum-told .given .1)) (c .before .before .before .before .loop .inv) (search needs)
 
 add-i : tie.Need-add-i Inv-loop μ-loop
 add-i c = search needs
@@ -42,7 +43,7 @@ loop-less : tie.Need-loop-less Inv-loop μ-loop
 loop-less c = search needs
 
 loop-again : tie.Need-loop-again Inv-loop μ-loop
-loop-again c = numbers-on _ _ _ _ _ _ _ _ (sym (c .before .before .before .read-below .ensures) ∙ ap readTold (c .before .found .given .1)) (c .before .before .before .before .before .loop .inv) (search needs)
+loop-again c = numbers-on _ _ _ _ _ _ _ _ (heard (c .before .before .before .read-below .ensures) (c .before .found .given .1)) (c .before .before .before .before .before .loop .inv) (search needs)
 
 returns-2 : tie.Need-returns-2 Inv-loop μ-loop
 returns-2 c = numbers-end _ _ _ _ _ _ (c .before .loop .inv) (search needs)

@@ -1,10 +1,10 @@
 -- `record::find::find_wire_list` meets its contract.
 -- Assumes nothing.
-use borrow.Author.Needs.{needs}
 use mathlib.Core.Path.{_∙_}
+use borrow.Author.Needs.{needs}
 use Rattle.record.proofs.Heads.{few-values, few-counts, list-fits}
-use Rattle.record.proofs.find.find_wire_list.Statement.{statement}
 use Rattle.record.proofs.find.find_wire_list.Tie as tie
+use Rattle.record.proofs.find.find_wire_list.Statement.{statement}
 
 returns : tie.Need-returns
 returns c = few-values _ _ _ _ _ (search needs)

@@ -1,15 +1,16 @@
 -- `record::find::find_wires` meets its contract.
 -- Assumes nothing.
-use borrow.Author.Needs.{needs}
 use mathlib.Core.Path.{_≡_, sym, ap, _∙_}
 use Prim.Native.Nat.{ℕ, _-_}
 use native.Mathlib.Nat.{sub-zero}
 use denote.Ref.{now}
+use borrow.Author.Needs.{needs}
 use Rattle.numbers.specs.Answer.{readTold}
 use Rattle.record.specs.Reading.{wiresAnswer}
+use Rattle.record.proofs.Ways.{heard}
 use Rattle.record.proofs.Wires.{wires-on, value-off, count-off, wires-end}
-use Rattle.record.proofs.find.find_wires.Statement.{statement}
 use Rattle.record.proofs.find.find_wires.Tie as tie
+use Rattle.record.proofs.find.find_wires.Statement.{statement}
 
 abbrev Inv-loop : tie.InvT-loop
 Inv-loop source at n next₀ i₀ next i =
@@ -32,8 +33,8 @@ enum-told c = search needs
 
 returns : tie.Need-returns Inv-loop μ-loop
 returns c =
-    let e = ap readTold (c .enum-told .given .1) in
-    e ∙ value-off _ _ _ _ _ _ _ (sym (c .before .before .find-numbers .ensures) ∙ e) (c .before .before .before .before .loop .inv) (search needs)
+    ap readTold (c .enum-told .given .1)
+    ∙ value-off _ _ _ _ _ _ _ (heard (c .before .before .find-numbers .ensures) (c .enum-told .given .1)) (c .before .before .before .before .loop .inv) (search needs)
 
 find-numbers-requires-2 : tie.Need-find-numbers-requires-2 Inv-loop μ-loop
 find-numbers-requires-2 c κs = search needs
@@ -47,7 +48,7 @@ enum-told-2 c = search needs
 returns-2 : tie.Need-returns-2 Inv-loop μ-loop
 returns-2 c =
     let e = ap readTold (c .enum-told2 .given .1) in
-    let v = sym (c .before .before .before .before .before .before .find-numbers .ensures) ∙ ap readTold (c .before .before .before .before .value .given .1) in
+    let v = heard (c .before .before .before .before .before .before .find-numbers .ensures) (c .before .before .before .before .value .given .1) in
     e ∙ count-off _ _ _ _ _ _ _ _ _ v (sym (c .before .before .find-numbers2 .ensures) ∙ e) (c .before .before .before .before .before .before .before .before .loop .inv) (search needs)
 
 add-i : tie.Need-add-i Inv-loop μ-loop
@@ -58,8 +59,8 @@ loop-less c = search needs
 
 loop-again : tie.Need-loop-again Inv-loop μ-loop
 loop-again c =
-    let v = sym (c .before .before .before .before .before .before .before .find-numbers .ensures) ∙ ap readTold (c .before .before .before .before .before .value .given .1) in
-    wires-on _ _ _ _ _ _ _ _ _ v (sym (c .before .before .before .find-numbers2 .ensures) ∙ ap readTold (c .before .count .given .1)) (c .before .before .before .before .before .before .before .before .before .loop .inv) (search needs)
+    let v = heard (c .before .before .before .before .before .before .before .find-numbers .ensures) (c .before .before .before .before .before .value .given .1) in
+    wires-on _ _ _ _ _ _ _ _ _ v (heard (c .before .before .before .find-numbers2 .ensures) (c .before .count .given .1)) (c .before .before .before .before .before .before .before .before .before .loop .inv) (search needs)
 
 returns-3 : tie.Need-returns-3 Inv-loop μ-loop
 returns-3 c = wires-end _ _ _ _ _ (c .before .loop .inv) (search needs)

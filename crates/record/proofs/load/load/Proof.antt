@@ -1,14 +1,14 @@
 -- `record::load::load` meets its contract.
 -- Assumes nothing.
-use borrow.Author.Needs.{needs}
 use mathlib.Core.Path.{_≡_}
 use native.Mathlib.Omega.{arith}
 use denote.Ref.{now}
+use borrow.Author.Needs.{needs}
 use Rattle.record.specs.Reading.{clkIn, idNextIn, wiresIn, wiresAt, readListAt}
 use Rattle.record.proofs.Loads.{ctx-is, clk-is, id-next-is, wires-are, wires-at, read-list-at, node-cells, reads-are, evals-are, header-is, record-is}
 use Rattle.record.proofs.Standing.{wires-there}
-use Rattle.record.proofs.load.load.Statement.{statement}
 use Rattle.record.proofs.load.load.Tie as tie
+use Rattle.record.proofs.load.load.Statement.{statement}
 
 -- the head is read
 abbrev start : tie.After-number-at4 → tie.Start

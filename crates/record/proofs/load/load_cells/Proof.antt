@@ -1,10 +1,10 @@
 -- `record::load::load_cells` meets its contract.
 -- Assumes nothing.
-use borrow.Author.Needs.{needs}
 use Prim.Native.Nat.{_-_}
+use borrow.Author.Needs.{needs}
 use Rattle.record.proofs.CellLoads.{Loading, loading-start, loading-next, loaded-place, loaded-cells}
-use Rattle.record.proofs.load.load_cells.Statement.{statement}
 use Rattle.record.proofs.load.load_cells.Tie as tie
+use Rattle.record.proofs.load.load_cells.Statement.{statement}
 
 abbrev Inv-loop : tie.InvT-loop
 Inv-loop source at n cells₀ from next₀ i₀ cells next i =

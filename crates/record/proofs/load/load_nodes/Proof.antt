@@ -1,14 +1,14 @@
 -- `record::load::load_nodes` meets its contract.
 -- Assumes nothing.
-use borrow.Author.Needs.{needs}
 use mathlib.Core.Path.{_≡_, ap, _∙_}
 use native.Mathlib.Omega.{arith}
 use denote.Ref.{now}
+use borrow.Author.Needs.{needs}
 use Rattle.record.specs.Numbers.{numberAt, nextAt}
 use Rattle.record.specs.Inside.{evalListFrom}
 use Rattle.record.proofs.Loads.{evals-at, nodes-stored}
-use Rattle.record.proofs.load.load_nodes.Statement.{statement}
 use Rattle.record.proofs.load.load_nodes.Tie as tie
+use Rattle.record.proofs.load.load_nodes.Statement.{statement}
 
 abbrev start : tie.After-number-at2 → tie.Start
 start c = c .before .before .before .before .before .before .before .before

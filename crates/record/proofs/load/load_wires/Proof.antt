@@ -1,11 +1,11 @@
 -- `record::load::load_wires` meets its contract.
 -- Assumes nothing.
-use borrow.Author.Needs.{needs}
 use Prim.Native.Nat.{_-_}
 use native.Mathlib.Omega.{arith}
+use borrow.Author.Needs.{needs}
 use Rattle.record.proofs.WireLoads.{WiresLoading, wires-start, count-is-u32, wires-next, loaded-wires}
-use Rattle.record.proofs.load.load_wires.Statement.{statement}
 use Rattle.record.proofs.load.load_wires.Tie as tie
+use Rattle.record.proofs.load.load_wires.Statement.{statement}
 
 abbrev Inv-loop : tie.InvT-loop
 Inv-loop source at n values₀ counts₀ next₀ k₀ values counts next k =
