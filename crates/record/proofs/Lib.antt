@@ -1,0 +1,11 @@
+pub mod Ways
+pub mod Places
+pub mod Numbers
+pub mod Wires
+pub mod Heads
+pub mod Tests
+pub mod CellLoads
+pub mod WireLoads
+pub mod Loads
+pub mod Fields
+pub mod Standing
