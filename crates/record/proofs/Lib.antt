@@ -1,2 +1,4 @@
 pub mod Widths
 pub mod Putting
+pub mod RecordParts
+pub mod RecordWriting

@@ -44,6 +44,9 @@ pub record Wrote (old : List ℕ) (at : ℕ) (vs out : List ℕ) (next : ℕ) : 
   pub place : next ≡ at + taken vs
   pub bytes : out ≡ sets old at (bytesOfAll vs)
 
+pub wrote : (old : List ℕ) (at : ℕ) (vs out : List ℕ) (next : ℕ) → next ≡ at + taken vs → out ≡ sets old at (bytesOfAll vs) → Wrote old at vs out next
+wrote old at vs out next e q = record { place = e; bytes = q }
+
 pub wrote-none : (old : List ℕ) (at : ℕ) → Wrote old at [] old at
 unfolding bytesOfAll
 wrote-none old at = record { place = omega (arith, taken-none); bytes = refl }
@@ -73,15 +76,15 @@ module _ {old : List ℕ} {at : ℕ} {vs mid : List ℕ} {m : ℕ} (w : Wrote ol
   pub wrote-then : (v : ℕ) (out : List ℕ) (next : ℕ) → next ≡ m + widthOf v → out ≡ sets mid m (bytesOf v) → Wrote old at (vs ++ (v ∷ [])) out next
   wrote-then v out next e q = wrote-on (v ∷ []) out next (wrote-one mid m v out next e q)
 
-  -- where there is room for what was put and for n bytes more, there is room for these now
-  pub room-after : (n : ℕ) → at + (taken vs + n) ≤ length old → m + n ≤ length mid
-  room-after n h = omega (arith, w .place, wrote-length)
+  -- where there is room for what was put and for more, there is room for that now, and for its first number
+  pub room-rest : (ws : List ℕ) → at + taken (vs ++ ws) ≤ length old → m + taken ws ≤ length mid
+  room-rest ws h = omega (arith, w .place, wrote-length, taken-append vs ws)
 
   pub room-next : (v : ℕ) (ws : List ℕ) → at + taken (vs ++ (v ∷ ws)) ≤ length old → m + widthOf v ≤ length mid
-  room-next v ws h = omega (arith, w .place, wrote-length, taken-append vs (v ∷ ws), taken-more v ws)
+  room-next v ws h = omega (arith, room-rest (v ∷ ws) h, taken-more v ws)
 
-pub room-first : (old : List ℕ) (at v : ℕ) (ws : List ℕ) → at + taken (v ∷ ws) ≤ length old → at + widthOf v ≤ length old
-room-first old at v ws h = omega (arith, taken-more v ws)
+pub room-first : (len at v : ℕ) (ws : List ℕ) → at + taken (v ∷ ws) ≤ len → at + widthOf v ≤ len
+room-first len at v ws h = omega (arith, taken-more v ws)
 
 -- a turn of `put_cells`
 module _ (cells : List ℕ) (from i : ℕ) {old : List ℕ} {at : ℕ} {mid : List ℕ} {m : ℕ} (w : Wrote old at (take i (drop from cells)) mid m) where

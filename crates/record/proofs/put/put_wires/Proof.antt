@@ -18,7 +18,7 @@ abbrev μ-loop : tie.MeasureT-loop
 μ-loop values counts n out₀ at next₀ k₀ out next k = n - k
 
 loop-holds : tie.Need-loop-holds Inv-loop μ-loop
-loop-holds c = (search needs, wires-none _ _ _ _, refl)
+loop-holds c = let a = c .before .before .before .args in (search needs, wires-none (a .values .now) (a .counts .now) _ _, refl)
 
 mul-put : tie.Need-mul-put Inv-loop μ-loop
 mul-put c = search needs

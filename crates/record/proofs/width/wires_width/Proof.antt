@@ -15,7 +15,7 @@ abbrev μ-loop : tie.MeasureT-loop
 μ-loop values counts n total₀ k₀ total k = n - k
 
 loop-holds : tie.Need-loop-holds Inv-loop μ-loop
-loop-holds c = (search needs, sym (wires-taken-none _ _), search needs)
+loop-holds c = let a = c .before .before .args in (search needs, sym (wires-taken-none (a .values .now) (a .counts .now)), search needs)
 
 mul-width : tie.Need-mul-width Inv-loop μ-loop
 mul-width c = search needs
