@@ -15,7 +15,6 @@ use Rattle.numbers.specs.Form.{bytesOf, widthOf}
 use Rattle.numbers.proofs.Groups.{width-counts, width-most}
 use Rattle.record.specs.Bytes.{bytesOfAll, wireNumbers}
 
--- how many bytes numbers take
 abbrev pub taken : List ℕ → ℕ
 taken vs = length (bytesOfAll vs)
 
