@@ -2,20 +2,13 @@
 -- Assumes nothing.
 use Prim.Native.Nat.{ℕ, suc, _+_, _-_, _≤_, _<_}
 use mathlib.Core.Path.{_≡_, refl, sym, ap, ap₂, _∙_}
-use mathlib.Core.List.{List, [], _∷_, _++_}
+use mathlib.Core.List.{List}
 use native.Mathlib.Nat.{sub-zero, add-zero}
 use native.Mathlib.Omega.{arith}
 use lib.ListN.{length, set, length-set}
 use lib.Seq.{sets}
 use Rattle.record.specs.Numbers.{numberAt, nextAt, after, numbersFrom}
 use Rattle.record.proofs.Places.{after-none, after-more, from-none, from-more}
-
--- two runs of stores, one behind the other
-pub sets-append : (xs ys l : List ℕ) (i : ℕ) → sets (sets l i xs) (i + length xs) ys ≡ sets l i (xs ++ ys)
-sets-append [] ys l i = ap (λ (k : ℕ). sets l k ys) (add-zero i)
-sets-append (x ∷ xs) ys l i =
-    let e : i + suc (length xs) ≡ suc i + length xs = omega arith in
-    ap (λ (k : ℕ). sets (sets (set l i x) (suc i) xs) k ys) e ∙ sets-append xs ys (set l i x) (suc i)
 
 pub record Loading (s : List ℕ) (at n : ℕ) (old : List ℕ) (from : ℕ) (cells : List ℕ) (next i : ℕ) : Type 0 where
   pub within : i ≤ n

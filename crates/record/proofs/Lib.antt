@@ -9,3 +9,7 @@ pub mod WireLoads
 pub mod Loads
 pub mod Fields
 pub mod Standing
+pub mod Widths
+pub mod Putting
+pub mod RecordParts
+pub mod RecordWriting

@@ -11,7 +11,7 @@ use Rattle.record.specs.Numbers.{numberAt, nextAt, after, numbersFrom}
 use Rattle.record.specs.Reading.{ctxIn, clkIn, idNextIn, wiresIn, wiresAt, declaredAt, readListAt, readsIn, readsAt, evalListAt, evalsIn, evalsAt, headerIn, valuesFrom, countsFrom, recordIn}
 use Rattle.record.specs.Inside.{evalListFrom, nodeCellsFrom, nodesFrom}
 use Rattle.record.proofs.Places.{length-from}
-use Rattle.record.proofs.CellLoads.{sets-append}
+use Rattle.trace.proofs.Stores.{sets-append}
 
 -- both lists of nodes
 module _ (s : List ℕ) (at : ℕ) where

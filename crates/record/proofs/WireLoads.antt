@@ -12,7 +12,7 @@ use Rattle.record.specs.Reading.{u32, valuesFrom, countsFrom}
 use Rattle.record.specs.Inside.{Wires}
 use Rattle.record.proofs.Places.{after-none, after-one, after-add, length-from}
 use Rattle.record.proofs.Wires.{count-fits, wires-behind}
-use Rattle.record.proofs.CellLoads.{sets-append}
+use Rattle.trace.proofs.Stores.{sets-append}
 
 module _ (s : List ℕ) (at : ℕ) where
   no-values : valuesFrom 0 s at ≡ []

@@ -7,7 +7,6 @@ use Prim.Native.Nat.{ℕ, _+_, _*_, _/_, _≤_, _<_}
 use native.Mathlib.Omega.{arith}
 use lib.ListN.{length, getD}
 use lib.Seq.{sets, length-sets}
-use borrow.Author.Tests.{le-leb, lt-leb}
 use Rattle.field.specs.Told.{Told, accepted, refused, changed}
 use Rattle.field.specs.Pair.{Pair}
 use Rattle.field.proofs.Cases.{below?}

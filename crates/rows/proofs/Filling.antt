@@ -1,13 +1,12 @@
 -- What the fill of rows comes to: row after row, and after each of its tests.
 -- Assumes nothing.
 use mathlib.Core.Path.{_≡_, refl, sym, ap, ap₂, _∙_}
-use mathlib.Core.List.{List, [], _∷_, _++_}
-use Prim.Native.Nat.{ℕ, suc, _+_, _*_, _≤_, _<_}
-use native.Mathlib.Nat.{add-zero}
+use mathlib.Core.List.{List, []}
+use Prim.Native.Nat.{ℕ, _+_, _*_, _≤_, _<_}
 use native.Mathlib.Numerals.{add-one}
 use native.Mathlib.Omega.{arith}
 use borrow.Author.Tests.{le-leb, lt-leb}
-use lib.ListN.{length, set}
+use lib.ListN.{length}
 use lib.Seq.{sets}
 use Rattle.field.specs.Told.{Told, accepted, refused, changed}
 use Rattle.field.specs.Lists.{each}
@@ -19,16 +18,10 @@ use Rattle.trace.specs.Output.{headerNumbers, headerOf}
 use Rattle.trace.specs.Record.{ofRecord, finalizedAnswer}
 use Rattle.trace.proofs.Answers.{finalized-header}
 use Rattle.trace.proofs.Records.{record-of, record-stops, record-goes, finalized-stops, finalized-goes}
+use Rattle.trace.proofs.Stores.{sets-append}
 use Rattle.rows.specs.Rows.{recordReadRow, recordEvalRow}
 use Rattle.rows.specs.Fill.{ofRows, numRows, fillAnswer, rowsWritten, filledRows, fillStateAnswer, stateRows}
 use Rattle.rows.specs.Inside.{Held}
-
--- stores that go on where others ended
-pub sets-append : (xs ys l : List ℕ) (i : ℕ) → sets (sets l i xs) (i + length xs) ys ≡ sets l i (xs ++ ys)
-sets-append [] ys l i = ap (λ (k : ℕ). sets l k ys) (add-zero i)
-sets-append (x ∷ xs) ys l i =
-    let e : i + suc (length xs) ≡ suc i + length xs = omega arith in
-    ap (λ (k : ℕ). sets (sets (set l i x) (suc i) xs) k ys) e ∙ sets-append xs ys (set l i x) (suc i)
 
 -- one row more
 pub row-next : (f : ℕ → List ℕ) → ((k : ℕ) → length (f k) ≡ 16) → (offset i : ℕ) (rows : List ℕ) {before after cells : List ℕ} → cells ≡ f i → after ≡ sets before (16 * (offset + i)) cells
