@@ -1,1 +1,3 @@
 pub mod Sequence
+pub mod Ranges
+pub mod WireList
