@@ -1,3 +1,4 @@
 pub mod Sequence
 pub mod Ranges
 pub mod WireList
+pub mod Fields
