@@ -6,3 +6,5 @@ pub mod Used
 pub mod Writer
 pub mod WritesBack
 pub mod OneForm
+pub mod FieldsRead
+pub mod ReadsBack

@@ -1,0 +1,2 @@
+-- Written reads back: what the writer wrote is read to the same header and the same cells.
+-- Assumes nothing.
