@@ -7,13 +7,14 @@ use mathlib.Core.List.{List, [], _∷_, _++_}
 use native.Mathlib.Omega.{arith}
 use lib.Dec.{ltb, leb, eqb}
 use lib.ListN.{length}
+use lib.Seq.{sets}
 use borrow.Author.Tests.{ltb-false, leb-true, eqb-true, eqb-false}
-use Rattle.field.specs.Told.{accepted}
+use Rattle.field.specs.Told.{Told, accepted}
 use Rattle.field.specs.Field.{p}
 use Rattle.field.specs.Lists.{each}
 use Rattle.numbers.specs.Answer.{readAnswer}
 use Rattle.trace.specs.Counts.{wires, nodeCells}
-use Rattle.trace.specs.Outcome.{Lent}
+use Rattle.trace.specs.Outcome.{Lent, lent}
 use Rattle.trace.specs.Record.{mostRecordWires}
 use Rattle.trace.proofs.Choices.{both, passes, not-stopped}
 use Rattle.record.specs.Bytes.{wireNumbers}
@@ -44,6 +45,9 @@ use Rattle.record.specs.Reading.{
   readFromAnswer,
   valuesFrom,
   countsFrom,
+  recordIn,
+  buffersRead,
+  readBuffers,
 }
 use Rattle.record.proofs.Sequence.{AllBelow, Stand, stand-join}
 use Rattle.record.proofs.Ranges.{FoundBelow, else-both, read-of, below-of, numbers-of}
@@ -196,3 +200,13 @@ accepted-of s b vs e =
   where
     of-told : {ws : List ℕ} → accepted ws ≡ accepted vs → ws ≡ vs
     of-told q = cc
+
+-- the buffers after reading
+
+pub after-reading : (s : List ℕ) (b : Lent) (vs : List ℕ) → readFromAnswer s b ≡ accepted vs → readBuffers s b ≡ recordIn s b
+after-reading s b vs e = ap (λ (t : Told). buffersRead t s b) e
+
+pub record-in : (s : List ℕ) (b : Lent)
+    → recordIn s b ≡ lent (sets (b .values) 0 (valuesIn s)) (sets (b .counts) 0 (countsIn s)) (sets (b .nodes) 0 (readCellsIn s ++ evalCellsIn s))
+unfolding recordIn
+record-in s b = refl

@@ -38,6 +38,7 @@ use Rattle.record.specs.Reading.{
   declaredAnswer,
   nodesAnswer,
   endAnswer,
+  fieldsAnswer,
 }
 use Rattle.record.proofs.Sequence.{AllBelow, Stand, read-number, stand-after, stand-from, stand-split-at}
 use Rattle.record.proofs.Ranges.{else-next, numbers-pass}
@@ -178,3 +179,11 @@ unfolding endAnswer
 end-pass reads evals declared end len some few e l =
     let z : (evals ≡ 0 → ⊥) = λ q. omega arith in
     rw (ne-eqb evals 0 z, le-ltb mostRecordWires (wires reads evals) few, eq-eqb (wires reads evals) declared e, le-ltb end len l)
+
+-- all fields, one after the other
+pub fields-pass : (s : List ℕ) (values counts nodes : ℕ) (ts us ws xs ys vs : List ℕ) → headAnswer s ≡ accepted ts → wireListAnswer (wiresIn s) s (wiresAt s) values counts ≡ accepted us
+    → declaredAnswer (wiresIn s) s (declaredAt s) ≡ accepted ws → nodesAnswer 0 7 nodes s (readListAt s) ≡ accepted xs → nodesAnswer (7 * readsIn s) 11 nodes s (evalListAt s) ≡ accepted ys
+    → endAnswer (readsIn s) (evalsIn s) (declaredIn s) (endAt s) (length s) ≡ accepted vs → fieldsAnswer s values counts nodes ≡ accepted vs
+unfolding fieldsAnswer
+fields-pass s values counts nodes ts us ws xs ys vs p₁ p₂ p₃ p₄ p₅ p₆ =
+    else-next _ _ ts p₁ ∙ else-next _ _ us p₂ ∙ else-next _ _ ws p₃ ∙ else-next _ _ xs p₄ ∙ else-next _ _ ys p₅ ∙ p₆

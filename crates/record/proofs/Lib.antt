@@ -7,4 +7,5 @@ pub mod Writer
 pub mod WritesBack
 pub mod OneForm
 pub mod FieldsRead
+pub mod BytesRead
 pub mod ReadsBack

@@ -6,7 +6,7 @@ use mathlib.Core.List.{List, [], _∷_, _++_}
 use native.Mathlib.Omega.{arith}
 use lib.ListN.{length, getD, take, drop, length-append}
 use lib.Seq.{sets, length-sets, getD-take, take-all}
-use Rattle.field.specs.Told.{Told, accepted}
+use Rattle.field.specs.Told.{accepted}
 use Rattle.field.specs.Field.{p}
 use Rattle.field.specs.Lists.{each}
 use Rattle.numbers.proofs.RoundTrip.{Bytes}
@@ -17,10 +17,10 @@ use Rattle.trace.specs.Record.{recordWires, recordCells}
 use Rattle.trace.proofs.Tests.{Fits}
 use Rattle.trace.proofs.Records.{Recorded}
 use Rattle.record.specs.Bytes.{wireNumbers, bytesOfAll, recordNumbers, recordBytes, writeIntoAnswer, writtenInto}
-use Rattle.record.specs.Reading.{ctxIn, clkIn, idNextIn, wiresIn, wiresAt, readsIn, readsAt, evalsIn, evalsAt, endAt, headerIn, readFromAnswer, recordIn, buffersRead, readBuffers}
+use Rattle.record.specs.Reading.{ctxIn, clkIn, idNextIn, wiresIn, wiresAt, readsIn, readsAt, evalsIn, evalsAt, endAt, headerIn, readFromAnswer, recordIn, readBuffers}
 use Rattle.record.proofs.Sequence.{AllBelow, below-at, below-append, from-length, stand-written}
 use Rattle.record.proofs.WireList.{values-length, counts-length}
-use Rattle.record.proofs.Fields.{valuesIn, countsIn, readCellsIn, evalCellsIn, numbersIn, Accepted, accepted-of}
+use Rattle.record.proofs.Fields.{valuesIn, countsIn, readCellsIn, evalCellsIn, numbersIn, Accepted, accepted-of, record-in, after-reading}
 use Rattle.record.proofs.Used.{used, laid, laid-equal, held-numbers, front-taken, lent-equal}
 use Rattle.record.proofs.Writer.{writer-accepts, Written, written-of}
 
@@ -45,11 +45,6 @@ header-of h s e =
 first-below : (n : ℕ) (xs ys : List ℕ) → take n xs ≡ ys → length ys ≡ n → AllBelow p ys → (k : ℕ) → k < n → getD xs k 0 < p
 first-below n xs ys e l b k h =
     subst (λ (v : ℕ). v < p) (sym (ap (λ (ws : List ℕ). getD ws k 0) e) ∙ getD-take n xs k 0 h) (below-at p ys b k (omega arith))
-
-record-in : (s : List ℕ) (b : Lent)
-    → recordIn s b ≡ lent (sets (b .values) 0 (valuesIn s)) (sets (b .counts) 0 (countsIn s)) (sets (b .nodes) 0 (readCellsIn s ++ evalCellsIn s))
-unfolding recordIn
-record-in s b = refl
 
 -- what was read, in the order of `recordIn`
 module _ (s : List ℕ) (b : Lent) (h : RecordHeader) (a : Accepted s (length (b .values)) (length (b .counts)) (length (b .nodes))) (e : HeaderOf h s) where
@@ -118,10 +113,6 @@ module _ (s : List ℕ) (b : Lent) (h : RecordHeader) (a : Accepted s (length (b
   read-bytes hb =
       let w = stand-written (numbersIn s) s 0 (endAt s) hb (omega arith) (a .stand) in
       ap bytesOfAll read-numbers ∙ sym (w .bytes) ∙ take-all (endAt s) s (a .all-read)
-
--- the buffers after reading
-after-reading : (s : List ℕ) (b : Lent) (vs : List ℕ) → readFromAnswer s b ≡ accepted vs → readBuffers s b ≡ recordIn s b
-after-reading s b vs e = ap (λ (t : Told). buffersRead t s b) e
 
 -- The reader answers the header that stands in the bytes.
 pub answers-header : (s : List ℕ) (b : Lent) (vs : List ℕ) → readFromAnswer s b ≡ accepted vs → vs ≡ headerIn s
