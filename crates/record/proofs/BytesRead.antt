@@ -6,8 +6,8 @@ use mathlib.Core.List.{List, [], _∷_, _++_, append-nil}
 use native.Mathlib.Nat.{zero-add}
 use native.Mathlib.Omega.{arith}
 use lib.ListN.{length, getD, take, drop, length-drop}
-use lib.Seq.{getD-take, getD-drop, length-take-le, take-at, drop-at, take-add}
-use Rattle.field.specs.Told.{Told, accepted}
+use lib.Seq.{getD-take, getD-drop, length-take-le, take-add}
+use Rattle.field.specs.Told.{accepted}
 use Rattle.field.specs.Field.{p}
 use Rattle.field.specs.Lists.{each}
 use Rattle.field.proofs.Each.{each-none, each-more}
@@ -17,15 +17,12 @@ use Rattle.trace.specs.Output.{headerNumbers}
 use Rattle.trace.specs.Record.{recordWires, recordCells}
 use Rattle.trace.proofs.Tests.{Fits}
 use Rattle.trace.proofs.Records.{Recorded}
-use Rattle.record.specs.Bytes.{wireNumbers, readCells, evalCells, recordNumbers, recordBytes, writeIntoAnswer, writtenInto}
-use Rattle.record.specs.Reading.{u32, wiresIn, wiresAt, declaredAt, declaredIn, readListAt, readsIn, readsAt, evalListAt, evalsIn, evalsAt, endAt, declaredAnswer, fieldsAnswer, headerIn, readFromAnswer, readBuffers}
+use Rattle.record.specs.Bytes.{wireNumbers, readCells, evalCells, recordNumbers, recordBytes}
+use Rattle.record.specs.Reading.{u32, wiresAt, declaredAt, declaredIn, readListAt, readsIn, readsAt, evalListAt, evalsIn, evalsAt, endAt, declaredAnswer, fieldsAnswer, headerIn}
 use Rattle.record.proofs.Sequence.{AllBelow, below-wider, below-append, all-below, Stand, written-stand}
-use Rattle.record.proofs.Ranges.{else-next}
 use Rattle.record.proofs.WireList.{wires-used}
-use Rattle.record.proofs.Fields.{valuesIn, countsIn, readCellsIn, evalCellsIn, record-in, after-reading}
+use Rattle.record.proofs.Fields.{valuesIn, countsIn, readCellsIn, evalCellsIn}
 use Rattle.record.proofs.FieldsRead.{HeadRead, head-read, ListRead, list-read, LengthsRead, lengths-read, declared-pass, nodes-pass, ReadsRead, reads-read, EvalsRead, evals-read, end-pass, fields-pass}
-use Rattle.record.proofs.Used.{laid, front-set}
-use Rattle.record.proofs.Writer.{Written, written-of}
 
 -- parts that are below a bound, one after the other
 each-below : (bound : ℕ) (f : ℕ → List ℕ) (n : ℕ) → ((k : ℕ) → k < n → AllBelow bound (f k)) → AllBelow bound (each f n)
@@ -100,12 +97,14 @@ module _ (h : RecordHeader) (b : Lent) (r : Recorded h b) (ctx-below : h .ctx < 
             omega (arith, r .id-in),
             (
               omega arith,
-              below-append (2 ^ 64) (each (wireNumbers (b .values) (b .counts)) (recordWires h)) (recordWires h ∷ h .«num_read» ∷ readCells h b ++ h .«num_eval» ∷ evalCells h b) wires-in
-              (omega arith, (
+              below-append (2 ^ 64) (each (wireNumbers (b .values) (b .counts)) (recordWires h)) (recordWires h ∷ h .«num_read» ∷ readCells h b ++ h .«num_eval» ∷ evalCells h b) wires-in (
                 omega arith,
-                below-append (2 ^ 64) (readCells h b) (h .«num_eval» ∷ evalCells h b) (below-wider p (2 ^ 64) (readCells h b) (omega arith) reads-in)
-                (omega arith, below-wider p (2 ^ 64) (evalCells h b) (omega arith) evals-in),
-              )),
+                (
+                  omega arith,
+                  below-append (2 ^ 64) (readCells h b) (h .«num_eval» ∷ evalCells h b) (below-wider p (2 ^ 64) (readCells h b) (omega arith) reads-in)
+                      (omega arith, below-wider p (2 ^ 64) (evalCells h b) (omega arith) evals-in),
+                ),
+              ),
             ),
           ),
         ),

@@ -2,12 +2,11 @@
 -- Assumes nothing.
 use Prim.Native.Nat.{ℕ, _+_, _*_, _≤_, _<_}
 use mathlib.Core.Path.{_≡_, refl, sym, ap, _∙_}
-use mathlib.Core.Bool.{true, cond}
 use mathlib.Core.List.{List, [], _∷_, _++_}
 use native.Mathlib.Omega.{arith}
 use lib.ListN.{length}
 use borrow.Author.Tests.{le-ltb, le-leb, eq-eqb, ne-eqb}
-use Rattle.field.specs.Told.{Told, accepted}
+use Rattle.field.specs.Told.{accepted}
 use Rattle.field.specs.Field.{p}
 use Rattle.field.specs.Lists.{each}
 use Rattle.numbers.specs.Answer.{readAnswer}

@@ -1,19 +1,22 @@
 -- Numbers that are read below a bound: what the answers say of them, both ways.
 -- Assumes nothing.
-use Prim.Native.Nat.{ℕ, zero, suc, _<_}
+use Prim.Native.Nat.{ℕ, zero, suc, _≤_, _<_}
 use mathlib.Core.Path.{_≡_, refl, sym, ap, _∙_}
 use mathlib.Core.List.{List, [], _∷_}
 use native.Mathlib.Omega.{arith}
 use lib.Dec.{ltb}
 use lib.ListN.{length, drop}
+use lib.Seq.{slice}
 use borrow.Author.Tests.{ltb-true}
 use Rattle.field.specs.Told.{Told, accepted, refused, orElse}
 use Rattle.numbers.specs.Form.{Found, found, cutOff, notShortest, findFrom}
 use Rattle.numbers.specs.Answer.{foundAt, within, readAnswer, readBelowAnswer}
+use Rattle.numbers.proofs.RoundTrip.{Bytes}
 use Rattle.numbers.proofs.Below.{below-accepted}
 use Rattle.trace.proofs.Choices.{passes}
+use Rattle.record.specs.Bytes.{bytesOfAll}
 use Rattle.record.specs.Numbers.{numberTold, nextTold, numberAt, nextAt, after, numbersFrom, numbersAnswer}
-use Rattle.record.proofs.Sequence.{AllBelow, Stand, after-none, after-more, from-none, from-more}
+use Rattle.record.proofs.Sequence.{AllBelow, Stand, slice-written}
 
 -- answers one after the other
 
@@ -84,3 +87,8 @@ numbers-pass bound (x ∷ xs) s at end h b =
     more-answer bound (length xs) s at
     ∙ else-next _ _ _ (below-accepted bound s at x (nextAt s at) (h .0) (b .0))
     ∙ numbers-pass bound xs s (nextAt s at) end (h .1) (b .1)
+
+-- Numbers that are accepted one after the other are written to the bytes that they were read from.
+pub numbers-written : (bound n : ℕ) (s : List ℕ) (at : ℕ) (vs : List ℕ) → Bytes s → at ≤ length s → numbersAnswer bound n s at ≡ accepted vs
+    → slice at (after n s at) s ≡ bytesOfAll (numbersFrom n s at)
+numbers-written bound n s at vs hb l e = slice-written (numbersFrom n s at) s at (after n s at) hb l (numbers-of bound n s at vs e .0)

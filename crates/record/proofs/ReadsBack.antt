@@ -5,19 +5,20 @@ use mathlib.Core.Path.{_≡_, refl, sym, ap, _∙_, subst}
 use mathlib.Core.List.{List, [], _∷_, _++_}
 use lib.ListN.{length, getD, take, drop}
 use lib.Seq.{sets, length-take-le, take-at, drop-at}
-use Rattle.field.specs.Told.{accepted}
+use Rattle.field.specs.Told.{Told, accepted, changed}
+use Rattle.trace.specs.declared.CircuitEvaluation.{CircuitEvaluation}
 use Rattle.trace.specs.declared.RecordHeader.{RecordHeader}
 use Rattle.trace.specs.Outcome.{Lent}
-use Rattle.trace.specs.Output.{headerNumbers}
+use Rattle.trace.specs.Output.{headerNumbers, headerOf}
 use Rattle.trace.specs.Record.{recordWires, recordCells}
 use Rattle.trace.proofs.Tests.{Fits}
-use Rattle.trace.proofs.Records.{Recorded}
-use Rattle.record.specs.Bytes.{recordBytes, writeIntoAnswer, writtenInto}
+use Rattle.trace.proofs.Records.{Recorded, finalized-of}
+use Rattle.record.specs.Bytes.{recordBytes, writeIntoAnswer, writtenInto, writeStateAnswer, writtenState}
 use Rattle.record.specs.Reading.{readFromAnswer, readBuffers}
 use Rattle.record.proofs.Ranges.{else-next}
 use Rattle.record.proofs.Fields.{record-in, after-reading}
 use Rattle.record.proofs.Used.{front-set}
-use Rattle.record.proofs.Writer.{Written, written-of}
+use Rattle.record.proofs.Writer.{written-of}
 use Rattle.record.proofs.BytesRead.{BytesRead, bytes-read}
 
 -- The bytes are read to the record of h and b: the header is h, the used cells of all three buffers are those of b, and the cells past them are those of b′, the buffers that the reader was lent.
@@ -72,3 +73,13 @@ reads-back h b out vs e x l c =
           subst (λ (s : List ℕ). ReadTo h b s b′) (sym q)
           (read-to h b (recordBytes h b) b′ (w .recorded) f (bytes-read h b (w .recorded) x l c (length (b′ .values)) (length (b′ .counts)) (length (b′ .nodes)) f));
     }
+
+-- The same of a step state: where the writer accepts it, it writes what it writes of the state's header.
+pub state-reads-back : (s : CircuitEvaluation) (b : Lent) (out vs : List ℕ) → writeStateAnswer s b out ≡ accepted vs
+    → s .ctx < 2 ^ 32 → s .clk < 2 ^ 32 → ((k : ℕ) → getD (b .counts) k 0 < 2 ^ 32)
+    → (writtenState s b out ≡ writtenInto (headerOf s) b out) × ReadsBack (headerOf s) b out vs
+unfolding writeStateAnswer
+state-reads-back s b out vs e x l c =
+    let f = finalized-of s (writeIntoAnswer (headerOf s) b out) vs e in
+    let new = sets out 0 (recordBytes (headerOf s) b) in
+    (ap (λ (t : Told). changed t new out) (e ∙ sym (f .2)), reads-back (headerOf s) b out vs (f .2) x l c)

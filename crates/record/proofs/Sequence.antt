@@ -5,8 +5,8 @@ use mathlib.Core.Path.{_≡_, refl, sym, ap, ap₂, _∙_, subst}
 use mathlib.Core.List.{List, [], _∷_, _++_, append-assoc, append-nil}
 use native.Mathlib.Omega.{arith}
 use lib.ListN.{length, getD, take, drop, length-append, take-append-drop}
-use lib.Seq.{slice, take-take, take-length, drop-at, length-take-le}
-use Rattle.field.specs.Told.{Told, accepted}
+use lib.Seq.{slice, take-take, drop-at, length-take-le}
+use Rattle.field.specs.Told.{accepted}
 use Rattle.numbers.specs.Form.{bytesOf, widthOf}
 use Rattle.numbers.specs.Answer.{readAnswer}
 use Rattle.numbers.proofs.Groups.{width-counts}
@@ -74,22 +74,22 @@ pub written-stand : (xs s before rest : List ℕ) (at end : ℕ) → AllBelow (2
 written-stand [] s before rest at end b es ea ee = let z = ap length bytes-none in omega arith
 written-stand (x ∷ xs) s before rest at end b es ea ee =
     let q : s ≡ before ++ (bytesOf x ++ (bytesOfAll xs ++ rest)) =
-        es
-        ∙ ap (λ (l : List ℕ). before ++ (l ++ rest)) (bytes-cons x xs)
-        ∙ ap (λ (l : List ℕ). before ++ l) (append-assoc (bytesOf x) (bytesOfAll xs) rest) in
+    es
+    ∙ ap (λ (l : List ℕ). before ++ (l ++ rest)) (bytes-cons x xs)
+    ∙ ap (λ (l : List ℕ). before ++ l) (append-assoc (bytesOf x) (bytesOfAll xs) rest) in
     let r : readAnswer s at ≡ accepted (x ∷ (at + widthOf x) ∷ []) =
-        ap₂ readAnswer q ea
-        ∙ written-is-read before (bytesOfAll xs ++ rest) x (b .0)
-        ∙ ap (λ (k : ℕ). accepted (x ∷ (k + widthOf x) ∷ [])) (sym ea) in
+    ap₂ readAnswer q ea
+    ∙ written-is-read before (bytesOfAll xs ++ rest) x (b .0)
+    ∙ ap (λ (k : ℕ). accepted (x ∷ (k + widthOf x) ∷ [])) (sym ea) in
     let n = read-next s at x (at + widthOf x) r in
     let w = width-counts x in
     let l = length-append before (bytesOf x) in
     let m = ap length (bytes-cons x xs) ∙ length-append (bytesOf x) (bytesOfAll xs) in (
       read-stands s at x (at + widthOf x) r,
       written-stand xs s (before ++ bytesOf x) rest (nextAt s at) end (b .1)
-      (q ∙ sym (append-assoc before (bytesOf x) (bytesOfAll xs ++ rest)))
-      (omega arith)
-      (omega arith),
+          (q ∙ sym (append-assoc before (bytesOf x) (bytesOfAll xs ++ rest)))
+          (omega arith)
+          (omega arith),
     )
 
 -- numbers that stand are the numbers that are found there
@@ -183,3 +183,15 @@ stand-written (x ∷ xs) s at end hb l h =
 pub slice-written : (xs s : List ℕ) (at end : ℕ) → Bytes s → at ≤ length s → Stand xs s at end → slice at end s ≡ bytesOfAll xs
 slice-written xs s at end hb l h =
     ap (drop at) (stand-written xs s at end hb l h .bytes) ∙ drop-at (take at s) (bytesOfAll xs) at (length-take-le at s l)
+
+-- In the terms of the definitions.
+
+-- Numbers below 2^64 that are written one after the other, whatever stands before and after their bytes, are the numbers that are found there, and end where their bytes end.
+pub numbers-read : (before xs rest : List ℕ) → AllBelow (2 ^ 64) xs
+    → (numbersFrom (length xs) (before ++ (bytesOfAll xs ++ rest)) (length before) ≡ xs)
+    × (after (length xs) (before ++ (bytesOfAll xs ++ rest)) (length before) ≡ length before + length (bytesOfAll xs))
+numbers-read before xs rest b =
+    let s = before ++ (bytesOfAll xs ++ rest) in
+    let end = length before + length (bytesOfAll xs) in
+    let h = written-stand xs s before rest (length before) end b refl refl refl in
+    (stand-from xs s (length before) end h, stand-after xs s (length before) end h)

@@ -6,12 +6,12 @@ use mathlib.Core.List.{List, [], _∷_, _++_}
 use native.Mathlib.Nat.{zero-add, suc-add}
 use native.Mathlib.Omega.{arith}
 use lib.ListN.{length, take, drop}
-use lib.Seq.{sets, sets-eq, take-take, take-nil, drop-nil, take-at, drop-at, take-all}
+use lib.Seq.{sets, sets-eq, take-take, take-nil, take-at, drop-at, take-all}
 use Rattle.field.specs.Lists.{each}
 use Rattle.trace.specs.declared.RecordHeader.{RecordHeader}
 use Rattle.trace.specs.Outcome.{Lent, lent}
 use Rattle.trace.specs.Record.{recordWires, recordCells}
-use Rattle.record.specs.Bytes.{wireNumbers, readCells, evalCells, recordNumbers}
+use Rattle.record.specs.Bytes.{wireNumbers, recordNumbers}
 use Rattle.record.proofs.WireList.{wires-used}
 
 -- the value cells, the counts and the node cells that a record uses

@@ -1,6 +1,6 @@
 -- The wire list: values and counts that are read from bytes are those whose numbers stand in them.
 -- Assumes nothing.
-use Prim.Native.Nat.{ℕ, zero, suc, _+_, _*_, _≤_, _<_}
+use Prim.Native.Nat.{ℕ, zero, suc, _+_, _*_, _<_}
 use mathlib.Core.Path.{_≡_, refl, sym, ap, ap₂, _∙_, subst}
 use mathlib.Core.List.{List, [], _∷_, _++_, append-assoc, append-nil}
 use native.Mathlib.Omega.{arith}
@@ -11,7 +11,7 @@ use Rattle.field.specs.Field.{p}
 use Rattle.field.specs.Lists.{each}
 use Rattle.field.proofs.Each.{each-none, each-more, each-equal, each-length}
 use Rattle.record.specs.Bytes.{wireNumbers}
-use Rattle.record.specs.Numbers.{numberAt, nextAt, after, numbersFrom, numbersAnswer}
+use Rattle.record.specs.Numbers.{numberAt, nextAt, after, numbersFrom}
 use Rattle.record.specs.Reading.{u32, wireAnswer, wiresAnswer, valuesFrom, countsFrom}
 use Rattle.record.proofs.Sequence.{AllBelow, Stand, read-number, after-none, from-none, stand-join, stand-split-at}
 use Rattle.record.proofs.Ranges.{else-both, else-next, numbers-of, numbers-pass}
@@ -88,8 +88,8 @@ from-wire n s at = let e : 3 * suc n ≡ suc (suc (suc (3 * n))) = omega arith i
 
 wires-from : (n : ℕ) (s : List ℕ) (at : ℕ)
     → each (wireNumbers (valuesFrom (suc n) s at) (countsFrom (suc n) s at)) (suc n)
-      ≡ numberAt s at ∷ numberAt s (nextAt s at) ∷ numberAt s (after 2 s at)
-      ∷ each (wireNumbers (valuesFrom n s (after 3 s at)) (countsFrom n s (after 3 s at))) n
+    ≡ numberAt s at ∷ numberAt s (nextAt s at) ∷ numberAt s (after 2 s at)
+    ∷ each (wireNumbers (valuesFrom n s (after 3 s at)) (countsFrom n s (after 3 s at))) n
 wires-from n s at =
     ap₂ (λ (vs cs : List ℕ). each (wireNumbers vs cs) (suc n)) (values-more n s at) (counts-more n s at)
     ∙ wires-cons (numberAt s at) (numberAt s (nextAt s at)) (numberAt s (after 2 s at)) (valuesFrom n s (after 3 s at)) (countsFrom n s (after 3 s at)) n
@@ -182,7 +182,7 @@ wires-read (suc n) (a ∷ []) cs s at end h lv lc bv bc = absurd (omega arith)
 wires-read (suc n) (a ∷ b ∷ vs) [] s at end h lv lc bv bc = absurd (omega arith)
 wires-read (suc n) (a ∷ b ∷ vs) (c ∷ cs) s at end h lv lc bv bc =
     let g = stand-split-at 3 (a ∷ b ∷ c ∷ []) (each (wireNumbers vs cs) n) s at (after 3 s at) end refl refl
-        (subst (λ (l : List ℕ). Stand l s at end) (wires-cons a b c vs cs n) h) in
+    (subst (λ (l : List ℕ). Stand l s at end) (wires-cons a b c vs cs n) h) in
     let r = wires-read n vs cs s (after 3 s at) end (g .1) (omega arith) (omega arith) (bv .1 .1) (bc .1) in
     let w = wire-pass a b c s at (record { stand = g .0; first = bv .0; second = bv .1 .0; count = bc .0 }) in
     let x = read-number s at a (nextAt s at) (g .0 .0) in

@@ -1,7 +1,7 @@
 -- Read writes back: bytes that the reader accepts are those that the writer writes of what was read.
 -- Assumes nothing.
-use Prim.Native.Nat.{ℕ, _+_, _*_, _≤_, _<_}
-use mathlib.Core.Path.{_≡_, refl, sym, ap, ap₂, _∙_, subst}
+use Prim.Native.Nat.{ℕ, _*_, _≤_, _<_}
+use mathlib.Core.Path.{_≡_, refl, sym, ap, _∙_, subst}
 use mathlib.Core.List.{List, [], _∷_, _++_}
 use native.Mathlib.Omega.{arith}
 use lib.ListN.{length, getD, take, drop, length-append}
@@ -14,15 +14,15 @@ use Rattle.trace.specs.declared.RecordHeader.{RecordHeader}
 use Rattle.trace.specs.Outcome.{Lent, lent}
 use Rattle.trace.specs.Output.{headerNumbers}
 use Rattle.trace.specs.Record.{recordWires, recordCells}
-use Rattle.trace.proofs.Tests.{Fits}
 use Rattle.trace.proofs.Records.{Recorded}
 use Rattle.record.specs.Bytes.{wireNumbers, bytesOfAll, recordNumbers, recordBytes, writeIntoAnswer, writtenInto}
+use Rattle.record.specs.Numbers.{numbersFrom}
 use Rattle.record.specs.Reading.{ctxIn, clkIn, idNextIn, wiresIn, wiresAt, readsIn, readsAt, evalsIn, evalsAt, endAt, headerIn, readFromAnswer, recordIn, readBuffers}
-use Rattle.record.proofs.Sequence.{AllBelow, below-at, below-append, from-length, stand-written}
+use Rattle.record.proofs.Sequence.{AllBelow, below-at, below-append, from-length, stand-from, stand-written}
 use Rattle.record.proofs.WireList.{values-length, counts-length}
 use Rattle.record.proofs.Fields.{valuesIn, countsIn, readCellsIn, evalCellsIn, numbersIn, Accepted, accepted-of, record-in, after-reading}
-use Rattle.record.proofs.Used.{used, laid, laid-equal, held-numbers, front-taken, lent-equal}
-use Rattle.record.proofs.Writer.{writer-accepts, Written, written-of}
+use Rattle.record.proofs.Used.{used, laid-equal, held-numbers, front-taken, lent-equal}
+use Rattle.record.proofs.Writer.{writer-accepts, written-of}
 
 -- the header with the numbers that stand in bytes
 record HeaderOf (h : RecordHeader) (s : List ℕ) : Type 0 where
@@ -93,6 +93,12 @@ module _ (s : List ℕ) (b : Lent) (h : RecordHeader) (a : Accepted s (length (b
       (e .evals-are)
       refl
 
+  read-in-order : recordNumbers h (recordIn s b) ≡ numbersFrom (length (recordNumbers h (recordIn s b))) s 0
+  read-in-order =
+      read-numbers
+      ∙ sym (stand-from (numbersIn s) s 0 (endAt s) (a .stand))
+      ∙ ap (λ (l : List ℕ). numbersFrom (length l) s 0) (sym read-numbers)
+
   read-recorded : Recorded h (recordIn s b)
   read-recorded =
       subst (Recorded h) (sym (record-in s b))
@@ -118,14 +124,15 @@ module _ (s : List ℕ) (b : Lent) (h : RecordHeader) (a : Accepted s (length (b
 pub answers-header : (s : List ℕ) (b : Lent) (vs : List ℕ) → readFromAnswer s b ≡ accepted vs → vs ≡ headerIn s
 answers-header s b vs e = sym (accepted-of s b vs e .1)
 
--- The record h and b is the one in the bytes s: they are its bytes; and, wherever there is room for them, the writer accepts it, answers how many they are, and writes them, leaving the bytes behind them as they were.
+-- The record h and b is the one in the bytes s: its numbers are those that stand in s from the first byte on, one after the other; s are its bytes; and, wherever there is room for them, the writer accepts it, answers how many they are, and writes them, leaving the bytes behind them as they were.
 pub record WritesBack (s : List ℕ) (h : RecordHeader) (b : Lent) : Type 0 where
+  pub numbers : recordNumbers h b ≡ numbersFrom (length (recordNumbers h b)) s 0
   pub bytes : recordBytes h b ≡ s
   pub answer : (out : List ℕ) → length s ≤ length out → writeIntoAnswer h b out ≡ accepted (length s ∷ [])
   pub written : (out : List ℕ) → length s ≤ length out → writtenInto h b out ≡ s ++ drop (length s) out
 
-recorded-back : (s : List ℕ) (h : RecordHeader) (b : Lent) → recordBytes h b ≡ s → Recorded h b → WritesBack s h b
-recorded-back s h b e r = record { bytes = e; answer = answer; written = written }
+recorded-back : (s : List ℕ) (h : RecordHeader) (b : Lent) → recordNumbers h b ≡ numbersFrom (length (recordNumbers h b)) s 0 → recordBytes h b ≡ s → Recorded h b → WritesBack s h b
+recorded-back s h b n e r = record { numbers = n; bytes = e; answer = answer; written = written }
   where
     answer : (out : List ℕ) → length s ≤ length out → writeIntoAnswer h b out ≡ accepted (length s ∷ [])
     answer out l = writer-accepts h b out r (omega (arith, ap length e)) ∙ ap (λ (x : List ℕ). accepted (length x ∷ [])) e
@@ -139,4 +146,4 @@ pub writes-back : (s : List ℕ) (b : Lent) (vs : List ℕ) (h : RecordHeader) �
 writes-back s b vs h hb e q =
     let a = accepted-of s b vs e in
     let f = header-of h s (q ∙ sym (a .1)) in
-    subst (WritesBack s h) (sym (after-reading s b vs e)) (recorded-back s h (recordIn s b) (read-bytes s b h (a .0) f hb) (read-recorded s b h (a .0) f))
+    subst (WritesBack s h) (sym (after-reading s b vs e)) (recorded-back s h (recordIn s b) (read-in-order s b h (a .0) f) (read-bytes s b h (a .0) f hb) (read-recorded s b h (a .0) f))
