@@ -22,7 +22,22 @@ use Rattle.record.specs.Reading.{u32, wiresAt, declaredAt, declaredIn, r
 use Rattle.record.proofs.Sequence.{AllBelow, below-wider, below-append, all-below, Stand, written-stand}
 use Rattle.record.proofs.WireList.{wires-used}
 use Rattle.record.proofs.Fields.{valuesIn, countsIn, readCellsIn, evalCellsIn}
-use Rattle.record.proofs.FieldsRead.{HeadRead, head-read, ListRead, list-read, LengthsRead, lengths-read, declared-pass, nodes-pass, ReadsRead, reads-read, EvalsRead, evals-read, end-pass, fields-pass}
+use Rattle.record.proofs.FieldsRead.{
+  HeadRead,
+  head-read,
+  ListRead,
+  list-read,
+  LengthsRead,
+  lengths-read,
+  declared-pass,
+  nodes-pass,
+  ReadsRead,
+  reads-read,
+  EvalsRead,
+  evals-read,
+  end-pass,
+  fields-pass,
+}
 
 -- parts that are below a bound, one after the other
 each-below : (bound : ℕ) (f : ℕ → List ℕ) (n : ℕ) → ((k : ℕ) → k < n → AllBelow bound (f k)) → AllBelow bound (each f n)
@@ -43,8 +58,9 @@ part-below bound from n xs l h =
 five : {a₁ a₂ a₃ a₄ a₅ b₁ b₂ b₃ b₄ b₅ : ℕ} → a₁ ≡ b₁ → a₂ ≡ b₂ → a₃ ≡ b₃ → a₄ ≡ b₄ → a₅ ≡ b₅ → a₁ ∷ a₂ ∷ a₃ ∷ a₄ ∷ a₅ ∷ [] ≡ b₁ ∷ b₂ ∷ b₃ ∷ b₄ ∷ b₅ ∷ []
 five e₁ e₂ e₃ e₄ e₅ = rw (e₁, e₂, e₃, e₄, e₅)
 
--- a record that the writer's tests pass, of numbers that its fields can hold, and its bytes
-module _ (h : RecordHeader) (b : Lent) (r : Recorded h b) (ctx-below : h .ctx < 2 ^ 32) (clk-below : h .clk < 2 ^ 32) (counts-below : (k : ℕ) → getD (b .counts) k 0 < 2 ^ 32) where
+-- a record that the writer's tests pass, and whose ctx, clk and counts are of 32 bits
+module _ (h : RecordHeader) (b : Lent) (r : Recorded h b)
+    (ctx-below : h .ctx < 2 ^ 32) (clk-below : h .clk < 2 ^ 32) (counts-below : (k : ℕ) → getD (b .counts) k 0 < 2 ^ 32) where
   abbrev usedValues : List ℕ
   usedValues = take (2 * recordWires h) (b .values)
 
@@ -87,36 +103,26 @@ module _ (h : RecordHeader) (b : Lent) (r : Recorded h b) (ctx-below : h .ctx < 
       let y = r .values-in (2 * k + 1) (omega arith) in
       (omega arith, (omega arith, (omega (arith, counts-below k), tt))))
 
-  numbers-in : AllBelow (2 ^ 64) (recordNumbers h b)
-  numbers-in =
-      let few = r .few in (
-        omega arith,
-        (
-          omega arith,
-          (
-            omega (arith, r .id-in),
-            (
-              omega arith,
-              below-append (2 ^ 64) (each (wireNumbers (b .values) (b .counts)) (recordWires h)) (recordWires h ∷ h .«num_read» ∷ readCells h b ++ h .«num_eval» ∷ evalCells h b) wires-in (
-                omega arith,
-                (
-                  omega arith,
-                  below-append (2 ^ 64) (readCells h b) (h .«num_eval» ∷ evalCells h b) (below-wider p (2 ^ 64) (readCells h b) (omega arith) reads-in)
-                      (omega arith, below-wider p (2 ^ 64) (evalCells h b) (omega arith) evals-in),
-                ),
-              ),
-            ),
-          ),
-        ),
-      )
-
-  -- so they stand in the bytes
-
   abbrev evalList : List ℕ
   evalList = h .«num_eval» ∷ evalCells h b
 
   abbrev nodeLists : List ℕ
   nodeLists = recordWires h ∷ h .«num_read» ∷ readCells h b ++ evalList
+
+  eval-list-in : AllBelow (2 ^ 64) evalList
+  eval-list-in = (omega (arith, r .few), below-wider p (2 ^ 64) (evalCells h b) (omega arith) evals-in)
+
+  node-lists-in : AllBelow (2 ^ 64) nodeLists
+  node-lists-in =
+      let cells = below-wider p (2 ^ 64) (readCells h b) (omega arith) reads-in in
+      (omega (arith, r .few), (omega (arith, r .few), below-append (2 ^ 64) (readCells h b) evalList cells eval-list-in))
+
+  numbers-in : AllBelow (2 ^ 64) (recordNumbers h b)
+  numbers-in =
+      let lists = below-append (2 ^ 64) (each (wireNumbers (b .values) (b .counts)) (recordWires h)) nodeLists wires-in node-lists-in in
+      (omega arith, (omega arith, (omega (arith, r .id-in), (omega (arith, r .few), lists))))
+
+  -- so they stand in the bytes
 
   abbrev wireList : ℕ → List ℕ
   wireList n = each (wireNumbers usedValues usedCounts) n

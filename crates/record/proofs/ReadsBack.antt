@@ -21,7 +21,8 @@ use Rattle.record.proofs.Used.{front-set}
 use Rattle.record.proofs.Writer.{written-of}
 use Rattle.record.proofs.BytesRead.{BytesRead, bytes-read}
 
--- The bytes are read to the record of h and b: the header is h, the used cells of all three buffers are those of b, and the cells past them are those of b′, the buffers that the reader was lent.
+-- The bytes are read to the record of h and b: the header is h, the used cells of all three buffers are those of b,
+-- and the cells past them are those of b′, the buffers that the reader was lent.
 pub record ReadTo (h : RecordHeader) (b : Lent) (bytes : List ℕ) (b′ : Lent) : Type 0 where
   pub answer : readFromAnswer bytes b′ ≡ accepted (headerNumbers h)
   pub values : readBuffers bytes b′ .values ≡ take (2 * recordWires h) (b .values) ++ drop (2 * recordWires h) (b′ .values)
@@ -49,7 +50,8 @@ read-to h b s b′ r f g =
       nodes = ap (λ (x : Lent). x .nodes) e ∙ filled (recordCells h) _ (b .nodes) (b′ .nodes) (g .nodes-are) (r .fits .for-nodes) (f .for-nodes);
     }
 
--- What the writer wrote of h and b: it answered the number of the record's bytes; these are the first that it left, and what was lent behind them is as it was; and they are read to the record, whatever buffers with room for it the reader is lent.
+-- What the writer wrote of h and b: it answered the number of the record's bytes; these are the first that it left, and what was lent behind them is as it was;
+-- and they are read to the record, whatever buffers with room for it the reader is lent.
 pub record ReadsBack (h : RecordHeader) (b : Lent) (out vs : List ℕ) : Type 0 where
   pub count : vs ≡ length (recordBytes h b) ∷ []
   pub bytes : take (length (recordBytes h b)) (writtenInto h b out) ≡ recordBytes h b

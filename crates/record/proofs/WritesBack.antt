@@ -46,8 +46,9 @@ first-below : (n : ℕ) (xs ys : List ℕ) → take n xs ≡ ys → length ys �
 first-below n xs ys e l b k h =
     subst (λ (v : ℕ). v < p) (sym (ap (λ (ws : List ℕ). getD ws k 0) e) ∙ getD-take n xs k 0 h) (below-at p ys b k (omega arith))
 
--- what was read, in the order of `recordIn`
-module _ (s : List ℕ) (b : Lent) (h : RecordHeader) (a : Accepted s (length (b .values)) (length (b .counts)) (length (b .nodes))) (e : HeaderOf h s) where
+-- bytes s that are accepted for the buffers b, and the header h that stands in them
+module _ (s : List ℕ) (b : Lent) (h : RecordHeader)
+    (a : Accepted s (length (b .values)) (length (b .counts)) (length (b .nodes))) (e : HeaderOf h s) where
   wires-same : recordWires h ≡ wiresIn s
   wires-same = omega (arith, e .reads-are, e .evals-are, a .of-nodes)
 
@@ -124,7 +125,8 @@ module _ (s : List ℕ) (b : Lent) (h : RecordHeader) (a : Accepted s (length (b
 pub answers-header : (s : List ℕ) (b : Lent) (vs : List ℕ) → readFromAnswer s b ≡ accepted vs → vs ≡ headerIn s
 answers-header s b vs e = sym (accepted-of s b vs e .1)
 
--- The record h and b is the one in the bytes s: its numbers are those that stand in s from the first byte on, one after the other; s are its bytes; and, wherever there is room for them, the writer accepts it, answers how many they are, and writes them, leaving the bytes behind them as they were.
+-- The record of h and b is the one in the bytes s: its numbers are those that stand in s from the first byte on, one after the other; s are its bytes;
+-- and wherever there is room for them, the writer accepts it, answers how many they are, and writes them, leaving the bytes behind them as they were.
 pub record WritesBack (s : List ℕ) (h : RecordHeader) (b : Lent) : Type 0 where
   pub numbers : recordNumbers h b ≡ numbersFrom (length (recordNumbers h b)) s 0
   pub bytes : recordBytes h b ≡ s
@@ -140,7 +142,8 @@ recorded-back s h b n e r = record { numbers = n; bytes = e; answer = answer; wr
     written : (out : List ℕ) → length s ≤ length out → writtenInto h b out ≡ s ++ drop (length s) out
     written out l = written-of h b out (length s ∷ []) (answer out l) .bytes ∙ ap (λ (x : List ℕ). x ++ drop (length x) out) e
 
--- Read writes back. Bytes s that the reader accepts, whatever the buffers b that it was lent, hold the record of the header that it answers and of the buffers that it leaves.
+-- Read writes back. Bytes s that the reader accepts, whatever the buffers b that it was lent,
+-- hold the record of the header that it answers and of the buffers that it leaves.
 pub writes-back : (s : List ℕ) (b : Lent) (vs : List ℕ) (h : RecordHeader) → Bytes s → readFromAnswer s b ≡ accepted vs → headerNumbers h ≡ vs
     → WritesBack s h (readBuffers s b)
 writes-back s b vs h hb e q =
