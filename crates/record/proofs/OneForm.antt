@@ -13,7 +13,8 @@ use Rattle.record.specs.Reading.{readFromAnswer, readBuffers}
 use Rattle.record.proofs.Used.{used, used-numbers}
 use Rattle.record.proofs.WritesBack.{writes-back}
 
--- Bytes that the reader accepts with the header h, leaving the used value cells, counts and node cells of c, are the bytes of the record of h and c, whatever the buffers b that it was lent.
+-- Bytes that the reader accepts with the header h, leaving the used value cells, counts and node cells of c, are the bytes of the record of h and c,
+-- whatever the buffers b that it was lent.
 pub only-form : (s : List ℕ) (b c : Lent) (h : RecordHeader) → Bytes s → readFromAnswer s b ≡ accepted (headerNumbers h) → used h (readBuffers s b) ≡ used h c
     → s ≡ recordBytes h c
 only-form s b c h hs e u =

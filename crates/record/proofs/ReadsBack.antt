@@ -59,7 +59,7 @@ pub record ReadsBack (h : RecordHeader) (b : Lent) (out vs : List ℕ) : Type 0 
   pub reads : (b′ : Lent) → Fits (h .«num_read») (h .«num_eval») (length (b′ .values)) (length (b′ .counts)) (length (b′ .nodes))
       → ReadTo h b (take (length (recordBytes h b)) (writtenInto h b out)) b′
 
--- Written reads back. The header and the counts are of numbers of 32 bits, as they are wherever the writer is called.
+-- Written reads back. ctx, clk and the counts are below 2^32, as in every call of the writer: their types hold no other numbers.
 pub reads-back : (h : RecordHeader) (b : Lent) (out vs : List ℕ) → writeIntoAnswer h b out ≡ accepted vs
     → h .ctx < 2 ^ 32 → h .clk < 2 ^ 32 → ((k : ℕ) → getD (b .counts) k 0 < 2 ^ 32) → ReadsBack h b out vs
 reads-back h b out vs e x l c =
