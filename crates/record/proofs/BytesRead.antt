@@ -21,7 +21,7 @@ use Rattle.record.specs.Bytes.{wireNumbers, readCells, evalCells, record
 use Rattle.record.specs.Reading.{u32, wiresAt, declaredAt, declaredIn, readListAt, readsIn, readsAt, evalListAt, evalsIn, evalsAt, endAt, declaredAnswer, fieldsAnswer, headerIn}
 use Rattle.record.proofs.Sequence.{AllBelow, below-wider, below-append, all-below, Stand, written-stand}
 use Rattle.record.proofs.WireList.{wires-used}
-use Rattle.record.proofs.Fields.{valuesIn, countsIn, readCellsIn, evalCellsIn}
+use Rattle.record.proofs.FieldsFound.{valuesIn, countsIn, readCellsIn, evalCellsIn}
 use Rattle.record.proofs.FieldsRead.{
   HeadRead,
   head-read,

@@ -42,7 +42,7 @@ use Rattle.record.specs.Reading.{
 use Rattle.record.proofs.Sequence.{AllBelow, Stand, read-number, stand-after, stand-from, stand-split-at}
 use Rattle.record.proofs.Ranges.{else-next, numbers-pass}
 use Rattle.record.proofs.WireList.{wires-length, wires-read}
-use Rattle.record.proofs.Fields.{valuesIn, countsIn, readCellsIn, evalCellsIn}
+use Rattle.record.proofs.FieldsFound.{valuesIn, countsIn, readCellsIn, evalCellsIn}
 
 -- ctx, clk, id_next and the wire list's length
 

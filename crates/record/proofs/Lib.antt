@@ -1,7 +1,7 @@
 pub mod Sequence
 pub mod Ranges
 pub mod WireList
-pub mod Fields
+pub mod FieldsFound
 pub mod Used
 pub mod Writer
 pub mod WritesBack

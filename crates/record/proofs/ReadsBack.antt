@@ -16,7 +16,7 @@ use Rattle.trace.proofs.Records.{Recorded, finalized-of}
 use Rattle.record.specs.Bytes.{recordBytes, writeIntoAnswer, writtenInto, writeStateAnswer, writtenState}
 use Rattle.record.specs.Reading.{readFromAnswer, readBuffers}
 use Rattle.record.proofs.Ranges.{else-next}
-use Rattle.record.proofs.Fields.{record-in, after-reading}
+use Rattle.record.proofs.FieldsFound.{record-in, after-reading}
 use Rattle.record.proofs.Used.{front-set}
 use Rattle.record.proofs.Writer.{written-of}
 use Rattle.record.proofs.BytesRead.{BytesRead, bytes-read}

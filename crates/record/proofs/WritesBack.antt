@@ -20,7 +20,7 @@ use Rattle.record.specs.Numbers.{numbersFrom}
 use Rattle.record.specs.Reading.{ctxIn, clkIn, idNextIn, wiresIn, wiresAt, readsIn, readsAt, evalsIn, evalsAt, endAt, headerIn, readFromAnswer, recordIn, readBuffers}
 use Rattle.record.proofs.Sequence.{AllBelow, below-at, below-append, from-length, stand-from, stand-written}
 use Rattle.record.proofs.WireList.{values-length, counts-length}
-use Rattle.record.proofs.Fields.{valuesIn, countsIn, readCellsIn, evalCellsIn, numbersIn, Accepted, accepted-of, record-in, after-reading}
+use Rattle.record.proofs.FieldsFound.{valuesIn, countsIn, readCellsIn, evalCellsIn, numbersIn, Accepted, accepted-of, record-in, after-reading}
 use Rattle.record.proofs.Used.{used, laid-equal, held-numbers, front-taken, lent-equal}
 use Rattle.record.proofs.Writer.{writer-accepts, written-of}
 
