@@ -13,3 +13,14 @@ pub mod Widths
 pub mod Putting
 pub mod RecordParts
 pub mod RecordWriting
+pub mod Sequence
+pub mod Ranges
+pub mod WireList
+pub mod FieldsFound
+pub mod Used
+pub mod Writer
+pub mod WritesBack
+pub mod OneForm
+pub mod FieldsRead
+pub mod BytesRead
+pub mod ReadsBack
