@@ -1,0 +1,2 @@
+-- What the private functions promise each other. No public contract cites this file.
+-- Assumes nothing.
