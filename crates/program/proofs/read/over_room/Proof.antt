@@ -1,28 +1,33 @@
+-- `program::read::over_room` meets its contract.
+-- Assumes nothing.
+use Prim.Native.Nat.{_+_, _≤_, _<_}
+use native.Mathlib.Omega.{arith}
 use borrow.Author.Needs.{needs}
-use Rattle.program.proofs.read.over_room.Statement.{statement}
+use Rattle.program.proofs.Inputs.{room-past, room-is}
 use Rattle.program.proofs.read.over_room.Tie as tie
-use Rattle.program.proofs.read.over_room.Reads as reads
-use Rattle.program.proofs.read.over_room.Lts as lts
+use Rattle.program.proofs.read.over_room.Statement.{statement}
 
--- src/read.rt:88:16
 cast-most : tie.Need-cast-most
 cast-most c = search needs
 
--- src/read.rt:90:9
 returns : tie.Need-returns
-returns c = ?
+returns c = room-past _ (omega arith)
 
--- src/read.rt:93:9
 returns-2 : tie.Need-returns-2
-returns-2 c = ?
+returns-2 c = room-past _ (omega arith)
 
--- src/read.rt:95:18
 add-result : tie.Need-add-result
 add-result c = search needs
 
--- src/read.rt:85:1
 returns-3 : tie.Need-returns-3
-returns-3 c = ?
+returns-3 c = room-is _ (omega arith)
 
 pub over-room-spec : {M : Type 1} → statement M
-over-room-spec = tie.close (tie.spec cast-most returns returns-2 add-result returns-3)
+over-room-spec =
+    tie.close
+    (tie.spec
+    cast-most
+    returns
+    returns-2
+    add-result
+    returns-3)
