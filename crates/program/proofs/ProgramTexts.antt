@@ -6,7 +6,7 @@ use native.Mathlib.Omega.{arith}
 use mathlib.Core.Bool.{false}
 use mathlib.Core.List.{List}
 use lib.ListN.{length, getD, take}
-use lib.Seq.{sets}
+use lib.Seq.{sets, length-sets}
 use borrow.Author.Tests.{le-leb, lt-leb}
 use Rattle.field.specs.Told.{Told, accepted, refused, orElse}
 use Rattle.eval_circuit.specs.Evaluated.{circuitAt, evalAnswer}
@@ -63,7 +63,7 @@ pub record Given (s head memory : List ℕ) : Type 0 where
   pub evals : getD head 4 0 ≡ evalsIn s
   pub ctx-fits : getD head 0 0 < 2 ^ 32
   pub clk-fits : getD head 1 0 < 2 ^ 32
-  pub few-cells : getD head 5 0 ≤ mostCells
+  pub held : getD head 5 0 ≤ length memory
   pub room : overRoom (getD head 3 0 + getD head 4 0) ≡ false
   pub cells : take (getD head 5 0) memory ≡ memoryIn s
 
@@ -80,7 +80,7 @@ input-given s head memory old vs e loads l =
       evals = evals-are s head q;
       ctx-fits = omega (arith, ctx-is s head q, g .ctx-fits);
       clk-fits = omega (arith, clk-is s head q, g .clk-fits);
-      few-cells = few;
+      held = omega (arith, few, ap length (loads vs e .cells), length-sets old 0 (memoryIn s), l);
       room = ap₂ (λ (x y : ℕ). overRoom (x + y)) (vars-are s head q) (evals-are s head q) ∙ g .room;
       cells = memory-taken s (getD head 5 0) old memory (loads vs e .cells) (cells-are s head q) (omega (arith, few, l));
     }

@@ -57,14 +57,17 @@ module _ (h : RecordHeader) (b : Lent) (out : List ℕ) (fits : Fits h b out) (r
   row-lines : (n : ℕ) → n ≡ 16 * numRows h → each (part 16 rows) n ≡ lines 16 (recordRows h b)
   row-lines n e = same-lines 16 rows (recordRows h b) n (e ∙ sym (record-rows-length h b)) (λ k l. row-cell k (omega arith))
 
-  -- there is room for the rows' lines, behind the first line
-  module _ (first mid there : List ℕ) (at rows-at n : ℕ) (e : at ≡ length accept) (q : mid ≡ sets out 0 accept)
+  abbrev first : List ℕ
+  first = numRows h ∷ recordWires h ∷ []
+
+  pub lines-held : (n : ℕ) → n ≡ 16 * numRows h → n ≤ length rows
+  lines-held n j = let few = fits .few in omega (arith, rows-length)
+
+  -- behind the first line there is room for the others
+  module _ (mid there : List ℕ) (at rows-at n : ℕ) (e : at ≡ length accept) (q : mid ≡ sets out 0 accept)
       (f : rows-at ≡ at + length (each (part 2 first) 2)) (p : there ≡ sets mid at (each (part 2 first) 2)) (j : n ≡ 16 * numRows h) where
     there-length : length there ≡ length out
     there-length = ap length p ∙ length-sets mid at (each (part 2 first) 2) ∙ ap length q ∙ length-sets out 0 accept
-
-    pub lines-held : n ≤ length rows
-    lines-held = let few = fits .few in omega (arith, rows-length)
 
     pub lines-fit : rows-at + 21 * n ≤ length there
     lines-fit =
@@ -73,16 +76,10 @@ module _ (h : RecordHeader) (b : Lent) (out : List ℕ) (fits : Fits h b out) (r
         let seven : at ≡ 7 = e in
         omega (arith, there-length, parts-length 2 first 2)
 
-  pub record-wrote : (first mid there new : List ℕ) (at rows-at end n : ℕ)
-      → at ≡ length accept → mid ≡ sets out 0 accept
-      → rows-at ≡ at + length (each (part 2 first) 2) → there ≡ sets mid at (each (part 2 first) 2)
-      → end ≡ rows-at + length (each (part 16 rows) n) → new ≡ sets there rows-at (each (part 16 rows) n)
-      → first ≡ numRows h ∷ recordWires h ∷ [] → n ≡ 16 * numRows h
-      → (end ≡ length (recordText h b)) × (new ≡ sets out 0 (recordText h b))
-  record-wrote first mid there new at rows-at end n e q f p g u i j =
-      text-is (wrote-on (word-wrote accept out mid at e q) (wrote-on first-wrote rows-wrote))
-    where
-      first-wrote : Wrote mid at (lines 2 (numRows h ∷ recordWires h ∷ [])) there rows-at
-      first-wrote = rw (← i) (wrote (each (part 2 first) 2) f p)
-      rows-wrote : Wrote there rows-at (lines 16 (recordRows h b)) new end
-      rows-wrote = rw (← row-lines n j) (wrote (each (part 16 rows) n) g u)
+    pub record-wrote : (new : List ℕ) (end : ℕ) → end ≡ rows-at + length (each (part 16 rows) n) → new ≡ sets there rows-at (each (part 16 rows) n)
+        → (end ≡ length (recordText h b)) × (new ≡ sets out 0 (recordText h b))
+    record-wrote new end g u =
+        text-is (wrote-on (word-wrote accept out mid at e q) (wrote-on (wrote (lines 2 first) f p) rows-wrote))
+      where
+        rows-wrote : Wrote there rows-at (lines 16 (recordRows h b)) new end
+        rows-wrote = rw (← row-lines n j) (wrote (each (part 16 rows) n) g u)

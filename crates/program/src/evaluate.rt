@@ -46,7 +46,13 @@ fn put_record(
     let first = [num_rows as u64, num_wires];
     let first_at = put_word(b"accept ", out);
     let rows_at = put_lines(&first, 2, 2, out, first_at);
-    put_lines(&rows, ACE_CHIPLET_NUM_COLS * num_rows, ACE_CHIPLET_NUM_COLS, out, rows_at)
+    put_lines(
+        &rows,
+        ACE_CHIPLET_NUM_COLS * num_rows,
+        ACE_CHIPLET_NUM_COLS,
+        out,
+        rows_at,
+    )
 }
 
 pub fn evaluate(

@@ -1,7 +1,7 @@
 -- `program::answer` meets its contract.
 -- Assumes nothing.
-use mathlib.Core.Path.{refl}
-use native.Mathlib.Omega.{arith}
+use mathlib.Core.Path.{refl, sym}
+use lib.Seq.{length-take-le}
 use borrow.Author.Needs.{needs}
 use Rattle.record.proofs.Ways.{heard}
 use Rattle.program.proofs.ProgramTexts.{no-text, text-there, input-refused, input-given, input-evaluated}
@@ -69,12 +69,12 @@ array-read-evaluate-5 c = search needs
 array-share-prefix-memory : tie.Need-array-share-prefix-memory
 array-share-prefix-memory c =
     let k = c .before .before .before .before .read-input in
-    omega (arith, input-given _ _ _ _ _ (heard (k .ensures .0) (c .enum-told .given .1)) (k .ensures .1) refl .few-cells)
+    input-given _ _ _ _ _ (heard (k .ensures .0) (c .enum-told .given .1)) (k .ensures .1) refl .held
 
 slice-aggregate-evaluate : tie.Need-slice-aggregate-evaluate
 slice-aggregate-evaluate c =
     let k = c .before .before .before .before .before .read-input in
-    search (needs, input-given _ _ _ _ _ (heard (k .ensures .0) (c .before .enum-told .given .1)) (k .ensures .1) refl .few-cells)
+    sym (length-take-le _ _ (input-given _ _ _ _ _ (heard (k .ensures .0) (c .before .enum-told .given .1)) (k .ensures .1) refl .held))
 
 evaluate-requires : tie.Need-evaluate-requires
 evaluate-requires c κs =

@@ -56,11 +56,10 @@ put-lines-requires-2 : tie.Need-put-lines-requires-2
 put-lines-requires-2 c κs =
     let s = c .before .before .before .before .before .before .before .before .before .before .before .before .before .before .before .before .before .before .before .before .before .before .before in
     let w = c .before .before .before .before .before .before .before .before .before .put-word in
-    let f = c .before .before .before .before .put-lines in
-    (
-      lines-held _ _ _ (s .pre) _ (c .before .before .before .before .before .before .before .before .before .before .before .before .before .before .before .before .before .fill .ensures .1) _ _ _ _ _ _ (w .ensures .0) (w .ensures .1) (f .ensures .0) (f .ensures .1) refl,
+    let f = c .before .before .before .before .put-lines in (
+      lines-held _ _ _ (s .pre) _ (c .before .before .before .before .before .before .before .before .before .before .before .before .before .before .before .before .before .fill .ensures .1) _ refl,
       search needs,
-      lines-fit _ _ _ (s .pre) _ (c .before .before .before .before .before .before .before .before .before .before .before .before .before .before .before .before .before .fill .ensures .1) _ _ _ _ _ _ (w .ensures .0) (w .ensures .1) (f .ensures .0) (f .ensures .1) refl,
+      lines-fit _ _ _ (s .pre) _ (c .before .before .before .before .before .before .before .before .before .before .before .before .before .before .before .before .before .fill .ensures .1) _ _ _ _ _ (w .ensures .0) (w .ensures .1) (f .ensures .0) (f .ensures .1) refl,
     )
 
 same-length : tie.Need-same-length
@@ -72,7 +71,7 @@ returns c =
     let w = c .before .before .before .before .before .before .before .before .before .before .before .before .put-word in
     let f = c .before .before .before .before .before .before .before .put-lines in
     let l = c .before .before .put-lines2 in
-    record-wrote _ _ _ (s .pre) _ (c .before .before .before .before .before .before .before .before .before .before .before .before .before .before .before .before .before .before .before .before .fill .ensures .1) _ _ _ _ _ _ _ _ (w .ensures .0) (w .ensures .1) (f .ensures .0) (f .ensures .1) (l .ensures .0) (l .ensures .1) refl refl
+    record-wrote _ _ _ (s .pre) _ (c .before .before .before .before .before .before .before .before .before .before .before .before .before .before .before .before .before .before .before .before .fill .ensures .1) _ _ _ _ _ (w .ensures .0) (w .ensures .1) (f .ensures .0) (f .ensures .1) refl _ _ (l .ensures .0) (l .ensures .1)
 
 pub put-record-spec : {M : Type 1} → statement M
 put-record-spec =

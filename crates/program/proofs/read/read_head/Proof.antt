@@ -56,8 +56,7 @@ returns-3 : tie.Need-returns-3
 returns-3 c =
     let e = heard (c .before .before .before .before .before .before .before .before .before .before .before .read-below .ensures) (c .before .before .before .before .before .before .before .before .before .ctx .given .1) in
     let f = heard (c .before .before .before .before .before .before .before .read-below2 .ensures) (c .before .before .before .before .before .clk .given .1) in
-    let k = c .before .before .read-numbers in
-    (
+    let k = c .before .before .read-numbers in (
       k .ensures .0 ∙ head-rest _ _ _ e _ _ f,
       λ vs q. head-stored _ _ _ e _ _ f (c .before .before .before .before .before .before .before .before .before .before .before .before .before .before .args .head .now) _ (k .ensures .1 vs (head-rest _ _ _ e _ _ f ∙ q)) (c .before .before .before .before .before .before .before .before .before .before .before .before .before .before .pre),
     )

@@ -88,8 +88,7 @@ returns-4 c =
     let e = heard (c .before .before .before .before .before .before .before .before .before .before .before .before .before .before .before .before .before .read-head .ensures .0) (c .before .before .before .before .before .before .before .before .before .before .before .before .before .numbers .given .1) in
     let q = c .before .before .before .before .before .before .before .before .before .before .before .before .before .before .before .before .before .read-head .ensures .1 _ e in
     let k = c .before .before .before .before .before .before .before .before .before .read-cells in
-    let f = heard (k .ensures .0) (c .before .before .before .before .before .cells .given .1) in
-    (
+    let f = heard (k .ensures .0) (c .before .before .before .before .before .cells .given .1) in (
       input-end _ _ e _ _ (cells-are _ _ q) (cells-at _ _ _ e) _ _ f _ _ (vars-are _ _ q) (evals-are _ _ q) (sym (c .before .over-room .ensures) ∙ c .if1 .left),
       λ vs p. record { numbers = q; cells = memory-stored _ _ e _ _ (cells-are _ _ q) (cells-at _ _ _ e) _ _ (k .ensures .1 _ f) },
     )

@@ -64,8 +64,7 @@ loop-less c = search needs
 loop-again : tie.Need-loop-again Inv-loop μ-loop
 loop-again c =
     let l = c .before .before .before .before .before .loop in
-    let e = heard (c .before .before .before .read .ensures) (c .before .found .given .1) in
-    (
+    let e = heard (c .before .before .before .read .ensures) (c .before .found .given .1) in (
       numbers-on _ _ _ _ _ _ _ _ (below-accepted _ _ _ _ _ e (search needs)) (l .inv .0) (search needs),
       loading-next _ _ _ _ _ (l .inv .1) _ _ (number-is _ _ _ _ e) (next-is _ _ _ _ e) (search needs),
     )

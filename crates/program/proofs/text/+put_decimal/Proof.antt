@@ -108,8 +108,7 @@ put-decimal-returns-2 : (t : ℕ) → put-decimal-lts.Need-returns-2 (
 ) (put-decimal-at t) put-decimal.Post
 put-decimal-returns-2 t c =
     let s = c .before .before .before .before .before .before in
-    let k = c .before .before .put-decimal in
-    (
+    let k = c .before .before .put-decimal in (
       omega (arith, k .ensures .0, more-length (s .args .v) (search needs) (search needs)),
       more-put (s .args .v) (s .args .at) _ (s .args .out .now) _ (k .ensures .0) (k .ensures .1) (search needs) (search needs),
     )
