@@ -6,3 +6,5 @@ pub mod Inputs
 pub mod RecordTexts
 pub mod Evaluations
 pub mod ProgramTexts
+pub mod Lengths
+pub mod NeverSix
