@@ -1,15 +1,17 @@
 -- Every text ends in a newline, and none is longer than `mostText`.
 -- Assumes nothing.
 use Prim.Native.Nat.{ℕ, suc, _+_, _-_, _*_, _/_, _%_, _≤_, _<_}
+use mathlib.Core.Logic.{⊎-elim}
 use mathlib.Core.Path.{_≡_, refl, sym, ap, ap₂, _∙_}
 use mathlib.Core.Bool.{false}
 use mathlib.Core.List.{List, [], _∷_, _++_, append-assoc}
 use native.Mathlib.Omega.{arith}
 use lib.ListN.{length, getD, take, length-append}
-use lib.Seq.{sets}
-use borrow.Author.Tests.{le-leb}
+use lib.Seq.{sets, length-sets}
+use borrow.Author.Tests.{le-leb, lt-leb}
 use Rattle.field.specs.Told.{Told, accepted, refused}
 use Rattle.field.specs.Lists.{each}
+use Rattle.field.proofs.Cases.{below?}
 use Rattle.field.proofs.Each.{each-more}
 use Rattle.eval_circuit.specs.Evaluated.{circuitAt, evalAnswer}
 use Rattle.eval_circuit.proofs.Accepted.{Valid, accepted-valid}
@@ -123,5 +125,18 @@ module _ (s out : List ℕ) (h : mostText ≤ length out) where
       ap₂ (λ (n : ℕ) (l : List ℕ). take n l) length-is text-is
       ∙ front-taken (length (programText s)) (programText s) out refl (omega arith)
 
-  pub length-fits : textLength s out ≤ length out
-  length-fits = let f = text-fitting s .short in omega (arith, length-is)
+  length-fits : textLength s out ≤ length (textAfter s out)
+  length-fits = let f = text-fitting s .short in omega (arith, length-is, ap length text-is, length-sets out 0 (programText s))
+
+-- and one without has none
+module _ (s out : List ℕ) (h : length out < mostText) where
+  no-length : textLength s out ≡ 0
+  unfolding textLength
+  no-length = rw (lt-leb mostText (length out) h)
+
+-- so what is answered is never more than the buffer holds
+pub text-held : (s out new : List ℕ) (n : ℕ) → n ≡ textLength s out → new ≡ textAfter s out → n ≤ length new
+text-held s out new n e q = omega (arith, held, ap length q)
+  where
+    held : textLength s out ≤ length (textAfter s out)
+    held = ⊎-elim (λ l. omega (arith, no-length s out l)) (λ l. length-fits s out l) (below? (length out) mostText)
