@@ -11,7 +11,7 @@ use lib.Seq.{sets}
 use borrow.Author.Tests.{lt-ltb, le-ltb, lt-leb, le-leb, ltb-false}
 use Rattle.field.specs.Told.{Told, accepted, refused, orElse}
 use Rattle.trace.specs.Counts.{mostWires}
-use Rattle.trace.proofs.Choices.{first-fails, second-fails, first-holds, not-stopped}
+use Rattle.trace.proofs.Choices.{second-fails, not-stopped}
 use Rattle.record.specs.Numbers.{nextAt, after, numbersFrom, numbersAnswer}
 use Rattle.record.proofs.Ways.{values-are, goes-on, stops, passed}
 use Rattle.record.proofs.Numbers.{place-after, first-below, rest-accepted}

@@ -3,7 +3,6 @@
 use Prim.Native.Nat.{ℕ, suc, _+_, _-_, _*_, _/_, _%_, _≤_, _<_}
 use mathlib.Core.Logic.{⊎-elim}
 use mathlib.Core.Path.{_≡_, refl, sym, ap, ap₂, _∙_}
-use mathlib.Core.Bool.{false}
 use mathlib.Core.List.{List, [], _∷_, _++_, append-assoc}
 use native.Mathlib.Omega.{arith}
 use lib.ListN.{length, getD, take, length-append}
@@ -19,7 +18,7 @@ use Rattle.rows.specs.ByWire.{circuitRows}
 use Rattle.rows.proofs.WireRows.{circuit-rows-length}
 use Rattle.record.proofs.Ways.{passed}
 use Rattle.program.specs.Input.{ctxIn, clkIn, ptrIn, varsIn, evalsIn, memoryIn, inputAnswer}
-use Rattle.program.specs.Text.{decimal, behind, part, lines}
+use Rattle.program.specs.Text.{decimal, part, lines}
 use Rattle.program.specs.Answer.{here, refuse, accept, refuseText, circuitText, textOf, programAnswer, programText, mostText, textLength, textAfter}
 use Rattle.program.proofs.Cells.{front-taken}
 use Rattle.program.proofs.Texts.{parts-length, behind-last}

@@ -1,13 +1,13 @@
 -- The program never answers 6: it has room for every circuit that comes to its evaluation.
 -- Assumes nothing.
-use Prim.Native.Nat.{ℕ, zero, suc, _+_, _-_, _/_, _%_, _^_, _≤_, _<_}
+use Prim.Native.Nat.{ℕ, zero, suc, _+_, _-_, _/_, _%_, _^_, _≤_}
 use mathlib.Core.Path.{_≡_, refl, sym, ap, _∙_}
 use mathlib.Core.Bool.{Bool, true, false, cond, _||_}
 use mathlib.Core.List.{List, [], _∷_}
 use native.Mathlib.Omega.{arith}
-use lib.Dec.{ltb, leb, eqb}
+use lib.Dec.{ltb, eqb}
 use lib.ListN.{length, drop}
-use borrow.Author.Tests.{ltb-false, ltb-true, eqb-false, le-leb}
+use borrow.Author.Tests.{ltb-false, eqb-false, le-leb}
 use Rattle.field.specs.Told.{Told, accepted, refused, orElse}
 use Rattle.field.specs.Field.{p, firstOver}
 use Rattle.field.specs.Answer.{ofElements}
@@ -15,7 +15,6 @@ use Rattle.instruction.specs.Decode.{leftId, rightId, opcode, decodeAnswer}
 use Rattle.numbers.specs.Form.{Found, found, cutOff, notShortest, findFrom}
 use Rattle.numbers.specs.Answer.{foundAt, within, readAnswer, readBelowAnswer}
 use Rattle.trace.specs.Counts.{mostWires, nodeCells, room}
-use Rattle.trace.specs.Outcome.{Lent}
 use Rattle.trace.specs.Eval.{atGate, isMade}
 use Rattle.trace.specs.Output.{isZero}
 use Rattle.trace.proofs.Tests.{room-by-nodes}

@@ -2,24 +2,24 @@
 -- Assumes nothing.
 use Prim.Native.Nat.{ℕ, _+_, _*_, _≤_, _<_}
 use mathlib.Core.Path.{_≡_, refl, sym, ap, _∙_}
-use mathlib.Core.List.{List, [], _∷_, _++_}
+use mathlib.Core.List.{List, [], _∷_}
 use native.Mathlib.Nat.{zero-add}
 use native.Mathlib.Omega.{arith}
 use lib.ListN.{length, getD}
 use lib.Seq.{sets, length-sets}
-use Rattle.field.specs.Told.{Told, accepted, changed}
+use Rattle.field.specs.Told.{Told, changed}
 use Rattle.field.specs.Lists.{each}
 use Rattle.trace.specs.declared.RecordHeader.{RecordHeader}
 use Rattle.trace.specs.Outcome.{Lent}
 use Rattle.trace.specs.Record.{recordWires}
 use Rattle.trace.proofs.Stores.{sets-in}
 use Rattle.rows.specs.Rows.{recordRows}
-use Rattle.rows.specs.Fill.{numRows, fillAnswer, filledRows}
+use Rattle.rows.specs.Fill.{numRows, filledRows}
 use Rattle.rows.proofs.WireRows.{record-rows-length}
 use Rattle.program.specs.Text.{part, lines}
-use Rattle.program.specs.Answer.{accept, refuse, refuseText, mostText}
+use Rattle.program.specs.Answer.{accept, refuse, refuseText}
 use Rattle.program.specs.Inside.{noRows, Fits, recordText}
-use Rattle.program.proofs.Texts.{Wrote, wrote, wrote-on, wrote-length, parts-length, same-lines}
+use Rattle.program.proofs.Texts.{Wrote, wrote, wrote-on, parts-length, same-lines}
 
 no-rows : length noRows ≡ 2048
 no-rows = refl

@@ -1,7 +1,7 @@
 -- What the private functions promise each other. No public contract cites this file.
 -- Assumes nothing.
 use mathlib.Core.Path.{_≡_}
-use Prim.Native.Nat.{ℕ, _+_, _≤_}
+use Prim.Native.Nat.{ℕ, _≤_}
 use mathlib.Core.List.{List, []}
 use lib.ListN.{length, replicate}
 use lib.Seq.{sets}
@@ -13,7 +13,7 @@ use Rattle.eval_circuit.specs.Evaluated.{circuitAt, evalAnswer}
 use Rattle.rows.specs.Rows.{recordRows}
 use Rattle.rows.specs.Fill.{numRows, fillAnswer}
 use Rattle.record.specs.Numbers.{numbersFrom}
-use Rattle.program.specs.Input.{mostCells, memoryIn}
+use Rattle.program.specs.Input.{memoryIn}
 use Rattle.program.specs.Answer.{here, mostText, acceptText, circuitText, textOf}
 
 -- what is so where an answer is no refusal

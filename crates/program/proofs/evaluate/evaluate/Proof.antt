@@ -1,13 +1,11 @@
 -- `program::evaluate::evaluate` meets its contract.
 -- Assumes nothing.
-use mathlib.Core.Path.{sym, ap, _∙_}
-use native.Mathlib.Omega.{arith}
+use mathlib.Core.Path.{ap, _∙_}
 use borrow.Author.Needs.{needs}
 use lib.ListN.{length}
 use lib.Seq.{sets}
 use mathlib.Core.List.{List}
 use Prim.Native.Nat.{ℕ}
-use Rattle.trace.specs.Output.{outputTold}
 use Rattle.program.proofs.Evaluations.{told, refused-text, accepted-text, accepted-fits}
 use Rattle.program.proofs.evaluate.evaluate.Tie as tie
 use Rattle.program.proofs.evaluate.evaluate.Statement.{statement}

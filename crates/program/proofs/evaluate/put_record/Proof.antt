@@ -1,7 +1,6 @@
 -- `program::evaluate::put_record` meets its contract.
 -- Assumes nothing.
 use mathlib.Core.Path.{refl}
-use native.Mathlib.Omega.{arith}
 use borrow.Author.Needs.{needs}
 use Rattle.program.proofs.RecordTexts.{lines-held, lines-fit, record-wrote}
 use Rattle.program.proofs.evaluate.put_record.Tie as tie

@@ -1,6 +1,5 @@
 -- `program::read::over_room` meets its contract.
 -- Assumes nothing.
-use Prim.Native.Nat.{_+_, _≤_, _<_}
 use native.Mathlib.Omega.{arith}
 use borrow.Author.Needs.{needs}
 use Rattle.program.proofs.Inputs.{room-past, room-is}

@@ -1,7 +1,6 @@
 -- `program::read::read_cells` meets its contract.
 -- Assumes nothing.
 use mathlib.Core.Path.{ap, _∙_}
-use native.Mathlib.Omega.{arith}
 use borrow.Author.Needs.{needs}
 use Rattle.numbers.specs.Answer.{readTold}
 use Rattle.record.proofs.Ways.{heard}

@@ -1,9 +1,7 @@
 -- `program::read::read_input` meets its contract.
 -- Assumes nothing.
 use mathlib.Core.Path.{sym, ap, _∙_}
-use native.Mathlib.Omega.{arith}
 use borrow.Author.Needs.{needs}
-use borrow.Author.Tests.{not-true, not-false}
 use Rattle.numbers.specs.Answer.{readTold}
 use Rattle.record.proofs.Ways.{heard}
 use Rattle.program.proofs.Cells.{where-refused}

@@ -1,6 +1,5 @@
 -- `program::text::put_refusal` meets its contract.
 -- Assumes nothing.
-use native.Mathlib.Omega.{arith}
 use borrow.Author.Needs.{needs}
 use Rattle.program.proofs.RecordTexts.{refusal-wrote}
 use Rattle.program.proofs.text.put_refusal.Tie as tie
