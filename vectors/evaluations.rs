@@ -17,6 +17,7 @@ mod whole;
 mod whole_cases;
 mod whole_large;
 mod whole_random;
+mod whole_script;
 mod whole_values;
 
 use std::fmt;
