@@ -6,8 +6,10 @@ use miden_core::{
     field::{BasedVectorSpace, QuadFelt},
 };
 
-use super::{CircuitEvaluation, EvalNode, ReadNode};
+use super::{CircuitEvaluation, EvalNode, ReadNode, WireBus};
+use crate::ContextId;
 
+#[derive(Clone, PartialEq)]
 pub struct Opened {
     pub ctx: u32,
     pub clk: u32,
@@ -51,6 +53,57 @@ fn eval_cells(node: &EvalNode) -> [Felt; 11] {
     } = *node;
     let ([a, b], [c, d], [e, f]) = (pair(v_0), pair(v_1), pair(v_2));
     [ptr, eval_op, id_0, a, b, id_1, c, d, id_2, e, f]
+}
+
+fn felt(cell: u64) -> Felt {
+    Felt::new_unchecked(cell)
+}
+
+fn quad(a: u64, b: u64) -> QuadFelt {
+    QuadFelt::of_cells([felt(a), felt(b)])
+}
+
+fn read_node(cells: &[u64]) -> ReadNode {
+    ReadNode {
+        ptr: felt(cells[0]),
+        id_0: felt(cells[1]),
+        v_0: quad(cells[2], cells[3]),
+        id_1: felt(cells[4]),
+        v_1: quad(cells[5], cells[6]),
+    }
+}
+
+fn eval_node(cells: &[u64]) -> EvalNode {
+    EvalNode {
+        ptr: felt(cells[0]),
+        eval_op: felt(cells[1]),
+        id_0: felt(cells[2]),
+        v_0: quad(cells[3], cells[4]),
+        id_1: felt(cells[5]),
+        v_1: quad(cells[6], cells[7]),
+        id_2: felt(cells[8]),
+        v_2: quad(cells[9], cells[10]),
+    }
+}
+
+impl Opened {
+    /// The Rust's own evaluation of which this is what it keeps. Cells are elements, as many as the counts
+    /// need.
+    pub fn closed(&self) -> CircuitEvaluation {
+        let wires = self.values.chunks_exact(2).zip(&self.counts);
+        let (reads, evals) = self.nodes.split_at(7 * self.num_read as usize);
+        CircuitEvaluation {
+            ctx: ContextId(self.ctx),
+            clk: self.clk.into(),
+            wire_bus: WireBus {
+                id_next: felt(self.id_next),
+                wires: wires.map(|(v, &m)| (quad(v[0], v[1]), m)).collect(),
+                num_wires: 2 * self.num_read + self.num_eval,
+            },
+            read_nodes: reads.chunks_exact(7).map(read_node).collect(),
+            eval_nodes: evals.chunks_exact(11).map(eval_node).collect(),
+        }
+    }
 }
 
 impl CircuitEvaluation {

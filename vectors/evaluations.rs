@@ -4,6 +4,7 @@
 //! with the oracle (cfg `oracle`), `answers` puts every case to the Rust too, and stops where it
 //! disagrees.
 
+mod changes;
 mod circuits;
 mod field;
 #[cfg(oracle)]
@@ -24,6 +25,7 @@ use std::fmt;
 use std::io;
 use std::process::ExitCode;
 
+use changes::write_changes;
 use field::P;
 use lines::{write_lines, write_numbers};
 use pattern::{sum, Pattern};
@@ -105,27 +107,6 @@ impl Buffers {
             sum(self.nodes.iter().copied()),
         ]
     }
-}
-
-/// Each run of cells that are no canaries: its first place, and the cells.
-fn write_changes<T: Copy + PartialEq + fmt::Display>(
-    f: &mut fmt::Formatter<'_>,
-    letter: char,
-    cells: &[T],
-    canaries: impl Iterator<Item = T>,
-) -> fmt::Result {
-    let mut is_after_change = false;
-    for (i, (cell, canary)) in cells.iter().zip(canaries).enumerate() {
-        let is_changed = *cell != canary;
-        if is_changed && !is_after_change {
-            write!(f, " {letter}{i}")?;
-        }
-        if is_changed {
-            write!(f, " {cell}")?;
-        }
-        is_after_change = is_changed;
-    }
-    Ok(())
 }
 
 fn answer(said: Said, setting: &Setting, memory: &[u64]) -> Answer {
