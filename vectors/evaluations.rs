@@ -1,17 +1,27 @@
 //! The questions of the program `evaluations` and the answers that document 01 gives to them: whole
 //! evaluation of circuits in memory, over buffers whose cells are canaries at first. `evaluations
 //! questions` and `evaluations answers` write them; only evaluations are answered, by a line each. Built
-//! with the oracle (cfg `oracle`), `answers` puts every case to the Rust too, and stops where it
-//! disagrees.
+//! with the oracle (cfg `oracle`), `answers` puts every case to the Rust too, and of those that it accepts
+//! the rows and the record's bytes that document 01 gives; it stops where the Rust disagrees.
 
 mod changes;
 mod circuits;
+#[cfg(oracle)]
+mod coding;
 mod field;
 #[cfg(oracle)]
 mod judge;
 mod lines;
 mod pattern;
 mod random;
+#[cfg(oracle)]
+mod reader;
+#[cfg(oracle)]
+mod record;
+#[cfg(oracle)]
+mod row_names;
+#[cfg(oracle)]
+mod rows;
 mod spoil;
 mod steps;
 mod whole;
@@ -20,6 +30,8 @@ mod whole_large;
 mod whole_random;
 mod whole_script;
 mod whole_values;
+#[cfg(oracle)]
+mod writer;
 
 use std::fmt;
 use std::io;
