@@ -1,7 +1,7 @@
 // Looking at all of a record's bytes, in field order, before anything is written. Each function
 // answers a number and the place after what it looked at, or the first refusal.
 ghost use mathlib.Core.Path.{_≡_};
-ghost use Prim.Native.Nat.{_*_};
+ghost use Prim.Native.Nat.{_≤_, _<_};
 ghost use Rattle.numbers.specs.Answer.{readTold};
 ghost use Rattle.record.specs.Numbers.{numbersAnswer};
 ghost use Rattle.record.specs.Reading.{headAnswer, wiresAnswer, wireListAnswer, declaredAnswer, nodesAnswer, endAnswer, fieldsAnswer};
@@ -135,7 +135,10 @@ fn find_end(reads: u64, evals: u64, declared: u64, end: usize, len: usize) -> Re
         return ReadAnswer::Refused(NO_EVAL_NODE, 0);
     }
     let most = MAX_NUM_ACE_WIRES as u64;
-    if most / 2 < reads || most - 2 * reads < evals {
+    if most / 2 < reads {
+        return ReadAnswer::Refused(OVER_MAX_WIRES, 0);
+    }
+    if most - 2 * reads < evals {
         return ReadAnswer::Refused(OVER_MAX_WIRES, 0);
     }
     if 2 * reads + evals != declared {

@@ -1,4 +1,5 @@
 pub mod Rows
 pub mod Fill
 pub mod ByWire
+pub mod Listing
 pub mod Inside

@@ -45,7 +45,10 @@ pub fn fill(
     let num_rows = num_read + header.num_eval as usize;
     // Offsets and sums are whole numbers: none of them is made before it is known to fit.
     let room = rows.len() / ACE_CHIPLET_NUM_COLS;
-    if room < num_rows || room - num_rows < offset {
+    if room < num_rows {
+        return FillAnswer::Refused(SHORT_ROWS, 0);
+    }
+    if room - num_rows < offset {
         return FillAnswer::Refused(SHORT_ROWS, 0);
     }
     fill_reads(header, counts, nodes, offset, rows);

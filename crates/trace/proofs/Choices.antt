@@ -6,7 +6,7 @@ use mathlib.Core.List.{List}
 use mathlib.Core.Logic.{_⊎_, ⊎-elim, inl, inr}
 use Prim.Native.Nat.{ℕ}
 use native.Mathlib.Omega.{arith}
-use Rattle.field.specs.Told.{Told, accepted, refused}
+use Rattle.field.specs.Told.{Told, accepted, refused, orElse}
 
 pub both : (a b : Bool) → (a && b) ≡ true → (a ≡ true) × (b ≡ true)
 both true b e = (refl, e)
@@ -44,3 +44,12 @@ passes false t n k vs e = let z : _≡_ {A = ℕ} 0 1 = cc in absurd (omega arit
 pub not-stopped : (b : Bool) (t : Told) (number place : ℕ) (vs : List ℕ) → cond b (refused number place) t ≡ accepted vs → (b ≡ false) × (t ≡ accepted vs)
 not-stopped false t n k vs e = (refl, e)
 not-stopped true t n k vs e = let z : _≡_ {A = ℕ} 0 1 = cc in absurd (omega arith)
+
+-- tests before an answer: the first refusal, or what comes after them
+pub stopped-else : (b : Bool) (number place : ℕ) (x y t : Told) → y ≡ orElse x t → cond b (refused number place) y ≡ orElse (cond b (refused number place) x) t
+stopped-else true n k x y t e = refl
+stopped-else false n k x y t e = e
+
+pub passed-else : (b : Bool) (number place : ℕ) (x y t : Told) → y ≡ orElse x t → cond b y (refused number place) ≡ orElse (cond b x (refused number place)) t
+passed-else true n k x y t e = e
+passed-else false n k x y t e = refl

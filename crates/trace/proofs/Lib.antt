@@ -1,5 +1,6 @@
 pub mod Choices
 pub mod Tests
+pub mod Records
 pub mod StepTests
 pub mod Writes
 pub mod Ways

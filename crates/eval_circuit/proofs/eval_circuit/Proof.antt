@@ -119,7 +119,7 @@ add-end-2 : tie.Need-add-end-2
 add-end-2 c = let r = region (at-tests c) in let m = within (at-tests c) in omega arith
 
 first-over-requires : tie.Need-first-over-requires
-first-over-requires c κs = let r = region (at-tests c) in let m = within (at-tests c) in (omega arith, omega arith)
+first-over-requires c κs = search needs
 
 same-length-4 : tie.Need-same-length-4
 same-length-4 c = search needs

@@ -1,11 +1,14 @@
 -- `trace::CircuitEvaluation::output_value` meets its contract.
 -- Assumes nothing.
 use mathlib.Core.Bool.{true}
-use mathlib.Core.Path.{_≡_, sym, _∙_}
+use mathlib.Core.Path.{_≡_, sym, ap, _∙_}
 use native.Mathlib.Omega.{arith}
 use denote.Ref.{now}
 use borrow.Author.Tests.{not-true, not-false}
 use borrow.Author.Needs.{needs}
+use Rattle.field.specs.Told.{accepted}
+use Rattle.trace.specs.declared.RecordHeader.{RecordHeader}
+use Rattle.trace.specs.Output.{headerNumbers}
 use Rattle.trace.specs.Outcome.{lent, fits}
 use Rattle.trace.specs.State.{sound}
 use Rattle.trace.proofs.Tests.{sound-of, room-of}
@@ -77,8 +80,11 @@ shared-slice-read-if5 c = let h = sound-of _ (is-sound-here (c .before .before .
 returns-5 : tie.Need-returns-5
 returns-5 c = second-not-zero _ _ (is-sound-here (c .before .before .before .before .before .before .before)) (has-room-here (c .before .before .before .before .before .before .before)) (c .before .before .before .before .before .before .num-wires .result) (search needs) (search needs) (search needs)
 
+header-requires : tie.Need-header-requires
+header-requires c κs = search needs
+
 returns-6 : tie.Need-returns-6
-returns-6 c = output-zero _ _ (is-sound-here (c .before .before .before .before .before .before .before)) (has-room-here (c .before .before .before .before .before .before .before)) (c .before .before .before .before .before .before .num-wires .result) (search needs) (search needs) (search needs) (search needs)
+returns-6 c = ap (λ (h : RecordHeader). accepted (headerNumbers h)) (c .header .ensures) ∙ output-zero _ _ (is-sound-here (c .before .before .before .before .before .before .before .before)) (has-room-here (c .before .before .before .before .before .before .before .before)) (c .before .before .before .before .before .before .before .num-wires .result) (search needs) (search needs) (search needs) (search needs)
 
 pub output-value-spec : {M : Type 1} → statement M
 output-value-spec =
@@ -102,4 +108,5 @@ output-value-spec =
     mul-if5-2
     shared-slice-read-if5
     returns-5
+    header-requires
     returns-6)
