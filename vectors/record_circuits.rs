@@ -10,7 +10,7 @@ use crate::writer::write;
 use crate::{Of, Question, BYTES, ROWS};
 
 const SEED: u64 = 4;
-const CIRCUITS: usize = 40;
+const CIRCUITS: usize = 30;
 const LARGE: [[u64; 2]; 2] = [[200, 100], [2, 300]];
 
 /// Elements are mostly of few digits.
