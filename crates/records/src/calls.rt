@@ -57,58 +57,75 @@ fn told(answer: HeaderAnswer) {
     }
 }
 
-// Rows, from the lent parts of the buffers.
+fn fill_rows(
+    letter: u8,
+    numbers: [u64; NUMBERS],
+    values: &[u64],
+    counts: &[u32],
+    nodes: &[u64],
+    rows: &mut [u64],
+) {
+    let offset = numbers[3] as usize;
+    match letter {
+        b'f' => filled(rows::fill(header_of(numbers), values, counts, nodes, offset, rows)),
+        _ => filled(rows::fill_state(state_of(numbers), values, counts, nodes, offset, rows)),
+    }
+}
+
+fn fill_canaries(
+    letter: u8,
+    numbers: [u64; NUMBERS],
+    values: &[u64],
+    counts: &[u32],
+    nodes: &[u64],
+    rows: &mut [u64],
+) {
+    cells::fill(rows, cells::ROW_CANARY);
+    let lent = cells::least(numbers[4] as usize, rows.len());
+    fill_rows(letter, numbers, values, counts, nodes, &mut rows[0..lent]);
+    cells::say_changed(b" r", rows, cells::ROW_CANARY);
+}
+
 fn fill(letter: u8, numbers: [u64; NUMBERS], values: &[u64], counts: &[u32], nodes: &[u64]) {
     let mut rows = [0u64; ROWS];
-    cells::fill(&mut rows, cells::ROW_CANARY);
-    let offset = numbers[3] as usize;
-    let lent = cells::least(numbers[4] as usize, ROWS);
-    match letter {
-        b'f' => filled(rows::fill(
-            header_of(numbers),
-            values,
-            counts,
-            nodes,
-            offset,
-            &mut rows[0..lent],
-        )),
-        _ => filled(rows::fill_state(
-            state_of(numbers),
-            values,
-            counts,
-            nodes,
-            offset,
-            &mut rows[0..lent],
-        )),
-    }
-    cells::say_changed(b" r", &rows, cells::ROW_CANARY);
+    fill_canaries(letter, numbers, values, counts, nodes, &mut rows);
 }
 
-// Bytes, from the lent parts of the buffers.
+fn write_bytes(
+    letter: u8,
+    numbers: [u64; NUMBERS],
+    values: &[u64],
+    counts: &[u32],
+    nodes: &[u64],
+    out: &mut [u8],
+) {
+    match letter {
+        b'w' => written(record::write_into(header_of(numbers), values, counts, nodes, out)),
+        _ => written(record::write_state_into(state_of(numbers), values, counts, nodes, out)),
+    }
+}
+
+fn write_canaries(
+    letter: u8,
+    numbers: [u64; NUMBERS],
+    values: &[u64],
+    counts: &[u32],
+    nodes: &[u64],
+    out: &mut [u8],
+) {
+    let filling = cells::byte(numbers[3]);
+    cells::fill_bytes(out, filling);
+    let lent = cells::least(numbers[4] as usize, out.len());
+    write_bytes(letter, numbers, values, counts, nodes, &mut out[0..lent]);
+    cells::say_changed_bytes(out, filling);
+}
+
 fn write(letter: u8, numbers: [u64; NUMBERS], values: &[u64], counts: &[u32], nodes: &[u64]) {
     let mut out = [0u8; BYTES];
-    let filling = cells::byte(numbers[3]);
-    cells::fill_bytes(&mut out, filling);
-    let lent = cells::least(numbers[4] as usize, BYTES);
-    match letter {
-        b'w' => written(record::write_into(
-            header_of(numbers),
-            values,
-            counts,
-            nodes,
-            &mut out[0..lent],
-        )),
-        _ => written(record::write_state_into(
-            state_of(numbers),
-            values,
-            counts,
-            nodes,
-            &mut out[0..lent],
-        )),
-    }
-    cells::say_changed_bytes(&out, filling);
+    write_canaries(letter, numbers, values, counts, nodes, &mut out);
 }
 
+// On the lent parts of the buffers.
 fn call(letter: u8, numbers: [u64; NUMBERS], values: &[u64], counts: &[u32], nodes: &[u64]) {
     let value_cells = cells::least(numbers[0] as usize, values.len());
     let count_cells = cells::least(numbers[1] as usize, counts.len());
@@ -118,8 +135,10 @@ fn call(letter: u8, numbers: [u64; NUMBERS], values: &[u64], counts: &[u32], nod
     let nodes = &nodes[0..node_cells];
     match letter {
         b'f' | b'g' => fill(letter, numbers, values, counts, nodes),
-        _ => write(letter, numbers, values, counts, nodes),
+        b'w' | b'x' => write(letter, numbers, values, counts, nodes),
+        _ => say::bytes(b"bad"),
     }
+    say::bytes(b"\n");
 }
 
 fn begin(
@@ -177,6 +196,7 @@ fn read_into_canaries(
     );
     read(numbers, source, values, counts, nodes);
     say_record(values, counts, nodes);
+    say::bytes(b"\n");
 }
 
 fn set_bytes(source: &mut [u8], numbers: [u64; NUMBERS]) {
@@ -187,22 +207,6 @@ fn set_bytes(source: &mut [u8], numbers: [u64; NUMBERS]) {
         at = wrapping_add_usize(at, 1);
         i += 1;
     }
-}
-
-fn ask(
-    letter: u8,
-    numbers: [u64; NUMBERS],
-    source: &[u8],
-    values: &mut [u64],
-    counts: &mut [u32],
-    nodes: &mut [u64],
-) {
-    match letter {
-        b'r' => read_into_canaries(numbers, source, values, counts, nodes),
-        b'f' | b'g' | b'w' | b'x' => call(letter, numbers, values, counts, nodes),
-        _ => say::bytes(b"bad"),
-    }
-    say::bytes(b"\n");
 }
 
 pub fn answer(
@@ -228,6 +232,7 @@ pub fn answer(
         b'N' => cells::set(nodes, at, numbers[1]),
         b'S' => set_bytes(source, numbers),
         b'T' => cells::set_byte(source, at, cells::byte(numbers[1])),
-        _ => ask(letter, numbers, source, values, counts, nodes),
+        b'r' => read_into_canaries(numbers, source, values, counts, nodes),
+        _ => call(letter, numbers, values, counts, nodes),
     }
 }
