@@ -141,20 +141,13 @@ fn call(letter: u8, numbers: [u64; NUMBERS], values: &[u64], counts: &[u32], nod
     say::bytes(b"\n");
 }
 
-fn begin(
-    value: u64,
-    count: u32,
-    node: u64,
-    values: &mut [u64],
-    counts: &mut [u32],
-    nodes: &mut [u64],
-) {
-    cells::fill(values, value);
-    cells::fill_counts(counts, count);
-    cells::fill(nodes, node);
+fn begin(numbers: [u64; NUMBERS], values: &mut [u64], counts: &mut [u32], nodes: &mut [u64]) {
+    cells::fill(values, numbers[0]);
+    cells::fill_counts(counts, cells::word(numbers[1]));
+    cells::fill(nodes, numbers[2]);
 }
 
-fn read(
+fn read_lent(
     numbers: [u64; NUMBERS],
     source: &[u8],
     values: &mut [u64],
@@ -173,29 +166,20 @@ fn read(
     ));
 }
 
-fn say_record(values: &[u64], counts: &[u32], nodes: &[u64]) {
-    cells::say_changed(b" v", values, cells::VALUE_CANARY);
-    cells::say_changed_counts(counts, cells::COUNT_CANARY);
-    cells::say_changed(b" n", nodes, cells::NODE_CANARY);
-}
-
-fn read_into_canaries(
+fn read(
     numbers: [u64; NUMBERS],
     source: &[u8],
     values: &mut [u64],
     counts: &mut [u32],
     nodes: &mut [u64],
 ) {
-    begin(
-        cells::VALUE_CANARY,
-        cells::COUNT_CANARY,
-        cells::NODE_CANARY,
-        values,
-        counts,
-        nodes,
-    );
-    read(numbers, source, values, counts, nodes);
-    say_record(values, counts, nodes);
+    cells::fill(values, cells::VALUE_CANARY);
+    cells::fill_counts(counts, cells::COUNT_CANARY);
+    cells::fill(nodes, cells::NODE_CANARY);
+    read_lent(numbers, source, values, counts, nodes);
+    cells::say_changed(b" v", values, cells::VALUE_CANARY);
+    cells::say_changed_counts(counts, cells::COUNT_CANARY);
+    cells::say_changed(b" n", nodes, cells::NODE_CANARY);
     say::bytes(b"\n");
 }
 
@@ -209,6 +193,28 @@ fn set_bytes(source: &mut [u8], numbers: [u64; NUMBERS]) {
     }
 }
 
+fn set_source(letter: u8, numbers: [u64; NUMBERS], source: &mut [u8]) {
+    match letter {
+        b'S' => set_bytes(source, numbers),
+        _ => cells::set_byte(source, numbers[0] as usize, cells::byte(numbers[1])),
+    }
+}
+
+fn set_cell(
+    letter: u8,
+    numbers: [u64; NUMBERS],
+    values: &mut [u64],
+    counts: &mut [u32],
+    nodes: &mut [u64],
+) {
+    let at = numbers[0] as usize;
+    match letter {
+        b'V' => cells::set(values, at, numbers[1]),
+        b'C' => cells::set_count(counts, at, cells::word(numbers[1])),
+        _ => cells::set(nodes, at, numbers[1]),
+    }
+}
+
 pub fn answer(
     letter: u8,
     numbers: [u64; NUMBERS],
@@ -217,22 +223,11 @@ pub fn answer(
     counts: &mut [u32],
     nodes: &mut [u64],
 ) {
-    let at = numbers[0] as usize;
     match letter {
-        b'B' => begin(
-            numbers[0],
-            cells::word(numbers[1]),
-            numbers[2],
-            values,
-            counts,
-            nodes,
-        ),
-        b'V' => cells::set(values, at, numbers[1]),
-        b'C' => cells::set_count(counts, at, cells::word(numbers[1])),
-        b'N' => cells::set(nodes, at, numbers[1]),
-        b'S' => set_bytes(source, numbers),
-        b'T' => cells::set_byte(source, at, cells::byte(numbers[1])),
-        b'r' => read_into_canaries(numbers, source, values, counts, nodes),
+        b'B' => begin(numbers, values, counts, nodes),
+        b'V' | b'C' | b'N' => set_cell(letter, numbers, values, counts, nodes),
+        b'S' | b'T' => set_source(letter, numbers, source),
+        b'r' => read(numbers, source, values, counts, nodes),
         _ => call(letter, numbers, values, counts, nodes),
     }
 }
