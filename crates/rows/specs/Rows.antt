@@ -29,17 +29,13 @@ abbrev pub evalRow : ℕ → ℕ → ℕ → ℕ → ℕ → Pair → ℕ → Pa
 evalRow ctx clk ptr eval-op id₀ v₀ id₁ v₁ id₂ v₂ m₀ =
     row 0 1 ctx ptr clk eval-op id₀ v₀ id₁ v₁ (id₂ ∷ v₂ .c0 ∷ v₂ .c1 ∷ m₀ ∷ [])
 
--- the pair in two cells
-abbrev pub pairAt : List ℕ → ℕ → Pair
-pairAt xs k = pair (getD xs k 0) (getD xs (k + 1) 0)
-
 -- READ row i of a record, by its counts and node cells, from the node whose cells begin at a place: "READ row i takes positions 2i (m_0) and 2i + 1 (m_1)"
 abbrev pub readRowAt : RecordHeader → List ℕ → List ℕ → ℕ → ℕ → List ℕ
 readRowAt h cs ns i at =
     readRow (h .ctx) (h .clk) (h .«num_eval») i
     (getD ns at 0)
-    (getD ns (at + 1) 0) (pairAt ns (at + 2))
-    (getD ns (at + 4) 0) (pairAt ns (at + 5))
+    (getD ns (at + 1) 0) (pair (getD ns (at + 2) 0) (getD ns (at + 3) 0))
+    (getD ns (at + 4) 0) (pair (getD ns (at + 5) 0) (getD ns (at + 6) 0))
     (getD cs (2 * i) 0) (getD cs (2 * i + 1) 0)
 
 -- EVAL row j of a record: "EVAL row j position 2·num_read + j"
@@ -47,9 +43,9 @@ abbrev pub evalRowAt : RecordHeader → List ℕ → List ℕ → ℕ → ℕ �
 evalRowAt h cs ns j at =
     evalRow (h .ctx) (h .clk)
     (getD ns at 0) (getD ns (at + 1) 0)
-    (getD ns (at + 2) 0) (pairAt ns (at + 3))
-    (getD ns (at + 5) 0) (pairAt ns (at + 6))
-    (getD ns (at + 8) 0) (pairAt ns (at + 9))
+    (getD ns (at + 2) 0) (pair (getD ns (at + 3) 0) (getD ns (at + 4) 0))
+    (getD ns (at + 5) 0) (pair (getD ns (at + 6) 0) (getD ns (at + 7) 0))
+    (getD ns (at + 8) 0) (pair (getD ns (at + 9) 0) (getD ns (at + 10) 0))
     (getD cs (2 * h .«num_read» + j) 0)
 
 abbrev pub recordReadRow : RecordHeader → List ℕ → List ℕ → ℕ → List ℕ

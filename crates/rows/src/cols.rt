@@ -41,8 +41,12 @@ pub fn read_cols(
     requires { ⌜ Held header (now counts) (now nodes) × (i < header .«num_read») × (at + 7 ≤ length (now nodes)) ⌝ }
     ensures { λ r. ⌜ colCells r ≡ readRowAt header (now (counts .entry)) (now (nodes .entry)) i at ⌝ }
 {
+    let first = s_start(i);
+    let m_0 = counts[2 * i] as u64;
+    let m_1 = counts[2 * i + 1] as u64;
+    let last_eval = header.num_eval as u64 - 1;
     AceCols {
-        s_start: s_start(i),
+        s_start: first,
         s_block: 0,
         ctx: header.ctx as u64,
         ptr: nodes[at],
@@ -52,12 +56,7 @@ pub fn read_cols(
         v_0: [nodes[at + 2], nodes[at + 3]],
         id_1: nodes[at + 4],
         v_1: [nodes[at + 5], nodes[at + 6]],
-        four: [
-            header.num_eval as u64 - 1,
-            0,
-            counts[2 * i + 1] as u64,
-            counts[2 * i] as u64,
-        ],
+        four: [last_eval, 0, m_1, m_0],
     }
 }
 
@@ -72,6 +71,7 @@ pub fn eval_cols(
     requires { ⌜ Held header (now counts) (now nodes) × (j < header .«num_eval») × (at + 11 ≤ length (now nodes)) ⌝ }
     ensures { λ r. ⌜ colCells r ≡ evalRowAt header (now (counts .entry)) (now (nodes .entry)) j at ⌝ }
 {
+    let m_0 = counts[2 * header.num_read as usize + j] as u64;
     AceCols {
         s_start: 0,
         s_block: 1,
@@ -83,12 +83,7 @@ pub fn eval_cols(
         v_0: [nodes[at + 3], nodes[at + 4]],
         id_1: nodes[at + 5],
         v_1: [nodes[at + 6], nodes[at + 7]],
-        four: [
-            nodes[at + 8],
-            nodes[at + 9],
-            nodes[at + 10],
-            counts[2 * header.num_read as usize + j] as u64,
-        ],
+        four: [nodes[at + 8], nodes[at + 9], nodes[at + 10], m_0],
     }
 }
 
