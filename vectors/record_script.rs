@@ -76,12 +76,11 @@ impl Script {
         self.push(Question::Read(lent, bytes.len()));
     }
 
-    /// One byte is another, and as it was again after it.
+    /// One byte is another.
     pub fn read_with(&mut self, lent: Lengths, bytes: &[u8], at: usize, byte: u8) {
-        self.set(bytes);
-        self.push(Question::Byte(at, byte));
-        self.push(Question::Read(lent, bytes.len()));
-        self.push(Question::Byte(at, bytes[at]));
+        let mut bytes = bytes.to_vec();
+        bytes[at] = byte;
+        self.read(lent, &bytes);
     }
 
     /// The bytes are read, and what was read fills rows and is written.

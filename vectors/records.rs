@@ -71,7 +71,6 @@ pub enum Question {
     Count(usize, u32),
     Node(usize, u64),
     Bytes(usize, [u8; STRETCH]),
-    Byte(usize, u8),
     /// How many bytes are there to be read.
     Read(Lengths, usize),
     /// Offset, and how many cells of the row buffer are lent.
@@ -222,7 +221,6 @@ impl Case {
             Question::Count(i, count) => self.counts[i] = count,
             Question::Node(i, cell) => self.nodes[i] = cell,
             Question::Bytes(i, bytes) => self.source[i..][..STRETCH].copy_from_slice(&bytes),
-            Question::Byte(i, byte) => self.source[i] = byte,
             _ => {}
         }
     }
@@ -259,7 +257,6 @@ impl Question {
             Question::Count(..) => 'C',
             Question::Node(..) => 'N',
             Question::Bytes(..) => 'S',
-            Question::Byte(..) => 'T',
             Question::Read(..) => 'r',
             Question::Fill(_, Of::Record(_), ..) => 'f',
             Question::Fill(_, Of::State(_), ..) => 'g',
@@ -281,7 +278,6 @@ impl Question {
                 let bytes = bytes.map(u64::from);
                 [[i as u64].as_slice(), &bytes].concat()
             }
-            Question::Byte(i, byte) => vec![i as u64, byte.into()],
             Question::Read([values, counts, nodes], bytes) => {
                 [values, counts, nodes, bytes].map(|n| n as u64).to_vec()
             }

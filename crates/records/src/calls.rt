@@ -105,24 +105,24 @@ fn write_bytes(
     }
 }
 
-fn write_canaries(
+fn write_over(
     letter: u8,
     numbers: [u64; NUMBERS],
     values: &[u64],
     counts: &[u32],
     nodes: &[u64],
     out: &mut [u8],
+    filling: u8,
 ) {
-    let filling = cells::byte(numbers[3]);
-    cells::fill_bytes(out, filling);
     let lent = cells::least(numbers[4] as usize, out.len());
     write_bytes(letter, numbers, values, counts, nodes, &mut out[0..lent]);
     cells::say_changed_bytes(out, filling);
 }
 
 fn write(letter: u8, numbers: [u64; NUMBERS], values: &[u64], counts: &[u32], nodes: &[u64]) {
-    let mut out = [0u8; BYTES];
-    write_canaries(letter, numbers, values, counts, nodes, &mut out);
+    let filling = cells::byte(numbers[3]);
+    let mut out = [filling; BYTES];
+    write_over(letter, numbers, values, counts, nodes, &mut out, filling);
 }
 
 // On the lent parts of the buffers.
@@ -193,13 +193,6 @@ fn set_bytes(source: &mut [u8], numbers: [u64; NUMBERS]) {
     }
 }
 
-fn set_source(letter: u8, numbers: [u64; NUMBERS], source: &mut [u8]) {
-    match letter {
-        b'S' => set_bytes(source, numbers),
-        _ => cells::set_byte(source, numbers[0] as usize, cells::byte(numbers[1])),
-    }
-}
-
 fn set_cell(
     letter: u8,
     numbers: [u64; NUMBERS],
@@ -226,7 +219,7 @@ pub fn answer(
     match letter {
         b'B' => begin(numbers, values, counts, nodes),
         b'V' | b'C' | b'N' => set_cell(letter, numbers, values, counts, nodes),
-        b'S' | b'T' => set_source(letter, numbers, source),
+        b'S' => set_bytes(source, numbers),
         b'r' => read(numbers, source, values, counts, nodes),
         _ => call(letter, numbers, values, counts, nodes),
     }

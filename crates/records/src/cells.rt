@@ -75,14 +75,6 @@ pub fn fill_counts(counts: &mut [u32], first: u32) {
     }
 }
 
-pub fn fill_bytes(bytes: &mut [u8], filling: u8) {
-    let mut i: usize = 0;
-    while i < bytes.len() {
-        bytes[i] = filling;
-        i += 1;
-    }
-}
-
 // Each run of cells that are no canaries: its first place, and the cells.
 pub fn say_changed(letter: &[u8], cells: &[u64], first: u64) {
     let mut i: usize = 0;
