@@ -2,17 +2,13 @@
 -- Assumes nothing.
 use mathlib.Core.Path.{_≡_, refl}
 use mathlib.Core.Bool.{Bool, true, false, _||_}
-use mathlib.Core.List.{List, _∷_}
+use mathlib.Core.List.{List}
 use mathlib.Core.Logic.{inl, inr}
-use Prim.Native.Nat.{ℕ, suc, _+_, _-_, _%_, _≤_, _<_}
+use Prim.Native.Nat.{ℕ, _+_, _-_, _%_, _≤_, _<_}
 use native.Mathlib.Omega.{arith}
 use lib.Dec.{ltb, eqb}
-use lib.ListN.{length, getD, take, drop}
-use lib.Seq.{drop-cons}
 use borrow.Author.Tests.{lt-ltb, le-ltb, eq-eqb, ne-eqb, ltb-false, eqb-false}
 use Rattle.field.specs.Told.{Told, accepted, refused}
-use Rattle.field.specs.Field.{p, firstOver}
-use Rattle.field.proofs.Over.{over-here, over-later, over-none}
 use Rattle.trace.specs.Counts.{mostWires}
 use Rattle.trace.proofs.Choices.{either-holds, not-stopped}
 use Rattle.eval_circuit.specs.Evaluated.{regionCells, ofRegion}

@@ -3,7 +3,7 @@
 use Prim.Native.Nat.{ℕ, _-_}
 use mathlib.Core.Path.{_≡_, refl}
 use mathlib.Core.List.{List, [], _∷_}
-use lib.ListN.{length, replicate, take}
+use lib.ListN.{replicate}
 use Rattle.field.specs.Told.{accepted, refused}
 use Rattle.field.specs.Lists.{each}
 use Rattle.field.specs.Field.{p, firstOver}
@@ -14,7 +14,7 @@ use Rattle.trace.specs.Counts.{room}
 use Rattle.trace.specs.Outcome.{Lent, lent}
 use Rattle.trace.specs.Record.{elements, inField, ofRecord}
 use Rattle.record.specs.Bytes.{bytesOfAll, recordBytes, ofBytes, writeIntoAnswer}
-use Rattle.record.specs.Numbers.{numberAt, nextAt, after, numbersFrom, numbersAnswer}
+use Rattle.record.specs.Numbers.{numberAt, nextAt, after, numbersAnswer}
 use Rattle.record.specs.Reading.{
   ctxIn,
   clkIn,

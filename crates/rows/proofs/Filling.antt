@@ -1,13 +1,12 @@
 -- What the fill of rows comes to: row after row, and after each of its tests.
 -- Assumes nothing.
 use mathlib.Core.Path.{_≡_, refl, sym, ap, ap₂, _∙_}
-use mathlib.Core.List.{List, [], _∷_, _++_}
-use Prim.Native.Nat.{ℕ, suc, _+_, _*_, _≤_, _<_}
-use native.Mathlib.Nat.{add-zero}
+use mathlib.Core.List.{List, []}
+use Prim.Native.Nat.{ℕ, _+_, _*_, _≤_, _<_}
 use native.Mathlib.Numerals.{add-one}
 use native.Mathlib.Omega.{arith}
 use borrow.Author.Tests.{le-leb, lt-leb}
-use lib.ListN.{length, set}
+use lib.ListN.{length}
 use lib.Seq.{sets}
 use Rattle.field.specs.Told.{Told, accepted, refused, changed}
 use Rattle.field.specs.Lists.{each}
@@ -19,16 +18,10 @@ use Rattle.trace.specs.Output.{headerNumbers, headerOf}
 use Rattle.trace.specs.Record.{ofRecord, finalizedAnswer}
 use Rattle.trace.proofs.Answers.{finalized-header}
 use Rattle.trace.proofs.Records.{record-of, record-stops, record-goes, finalized-stops, finalized-goes}
+use Rattle.trace.proofs.Stores.{sets-append}
 use Rattle.rows.specs.Rows.{recordReadRow, recordEvalRow}
 use Rattle.rows.specs.Fill.{ofRows, numRows, fillAnswer, rowsWritten, filledRows, fillStateAnswer, stateRows}
 use Rattle.rows.specs.Inside.{Held}
-
--- stores that go on where others ended
-pub sets-append : (xs ys l : List ℕ) (i : ℕ) → sets (sets l i xs) (i + length xs) ys ≡ sets l i (xs ++ ys)
-sets-append [] ys l i = ap (λ (k : ℕ). sets l k ys) (add-zero i)
-sets-append (x ∷ xs) ys l i =
-    let e : i + suc (length xs) ≡ suc i + length xs = omega arith in
-    ap (λ (k : ℕ). sets (sets (set l i x) (suc i) xs) k ys) e ∙ sets-append xs ys (set l i x) (suc i)
 
 -- one row more
 pub row-next : (f : ℕ → List ℕ) → ((k : ℕ) → length (f k) ≡ 16) → (offset i : ℕ) (rows : List ℕ) {before after cells : List ℕ} → cells ≡ f i → after ≡ sets before (16 * (offset + i)) cells
@@ -44,6 +37,15 @@ row-next f wide offset i rows ec ea eb =
 -- the last row is written
 pub all-rows : (f : ℕ → List ℕ) (offset n i : ℕ) (rows after : List ℕ) → after ≡ sets rows (16 * offset) (each f i) → i ≡ n → after ≡ sets rows (16 * offset) (each f n)
 all-rows f offset n i rows after e q = e ∙ ap (λ (k : ℕ). sets rows (16 * offset) (each f k)) q
+
+-- the test of the row buffer, 14, both ways
+pub short-rows : (offset num-rows len : ℕ) (t : Told) → len < 16 * (offset + num-rows) → refused 14 0 ≡ ofRows offset num-rows len t
+unfolding ofRows
+short-rows offset num-rows len t l = rw (lt-leb (16 * (offset + num-rows)) len l)
+
+pub enough-rows : (offset num-rows len : ℕ) (t : Told) → 16 * (offset + num-rows) ≤ len → t ≡ ofRows offset num-rows len t
+unfolding ofRows
+enough-rows offset num-rows len t l = rw (le-leb (16 * (offset + num-rows)) len l)
 
 -- a record that passed its tests
 pub held : (h : RecordHeader) (b : Lent) → accepted [] ≡ ofRecord h b (accepted []) → Held h (b .counts) (b .nodes)
@@ -63,19 +65,11 @@ module _ (h : RecordHeader) (b : Lent) (offset : ℕ) (rows : List ℕ) where
   unfolding fillAnswer
   passed e = record-goes h b (ofRows offset (numRows h) (length rows) (accepted [])) e
 
-  too-few : (n len : ℕ) (t : Told) → len < 16 * (offset + n) → refused 14 0 ≡ ofRows offset n len t
-  unfolding ofRows
-  too-few n len t l = rw (lt-leb (16 * (offset + n)) len l)
-
-  enough : (n len : ℕ) (t : Told) → 16 * (offset + n) ≤ len → t ≡ ofRows offset n len t
-  unfolding ofRows
-  enough n len t l = rw (le-leb (16 * (offset + n)) len l)
-
   pub fill-stops : (number place : ℕ) → refused number place ≡ ofRecord h b (accepted []) → (refused number place ≡ fillAnswer h b offset rows) × (rows ≡ filledRows h b offset rows)
   fill-stops n k e = let q = stopped n k e in (q, kept n k q)
 
   pub fill-short : accepted [] ≡ ofRecord h b (accepted []) → length rows < 16 * (offset + numRows h) → (refused 14 0 ≡ fillAnswer h b offset rows) × (rows ≡ filledRows h b offset rows)
-  fill-short e l = let q = too-few (numRows h) (length rows) (accepted []) l ∙ passed e in (q, kept 14 0 q)
+  fill-short e l = let q = short-rows offset (numRows h) (length rows) (accepted []) l ∙ passed e in (q, kept 14 0 q)
 
   pub fill-done : accepted [] ≡ ofRecord h b (accepted []) → 16 * (offset + numRows h) ≤ length rows → {read filled : List ℕ}
       → read ≡ sets rows (16 * offset) (each (recordReadRow h (b .counts) (b .nodes)) (h .«num_read»))
@@ -84,7 +78,7 @@ module _ (h : RecordHeader) (b : Lent) (offset : ℕ) (rows : List ℕ) where
   fill-done e l {read} {filled} er ef =
       let reads = each (recordReadRow h (b .counts) (b .nodes)) (h .«num_read») in
       let evals = each (recordEvalRow h (b .counts) (b .nodes)) (h .«num_eval») in
-      let q = enough (numRows h) (length rows) (accepted []) l ∙ passed e in
+      let q = enough-rows offset (numRows h) (length rows) (accepted []) l ∙ passed e in
       let place : 16 * (offset + h .«num_read») ≡ 16 * offset + length reads = omega (arith, each-length (recordReadRow h (b .counts) (b .nodes)) 16 (λ k. refl) (h .«num_read»)) in
       (
         q,

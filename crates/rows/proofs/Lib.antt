@@ -1,2 +1,9 @@
 pub mod Filling
 pub mod Answers
+pub mod WireRows
+pub mod AcceptedRecord
+pub mod EvaluatedRows
+pub mod WorkedRows
+pub mod WireValues
+pub mod RowSecrets
+pub mod TwinRows

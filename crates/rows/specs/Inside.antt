@@ -1,6 +1,6 @@
 -- What the private functions promise each other. No public contract cites this file.
 -- Assumes nothing.
-use Prim.Native.Nat.{ℕ, _+_, _*_, _≤_, _<_}
+use Prim.Native.Nat.{ℕ, _≤_, _<_}
 use mathlib.Core.List.{List, [], _∷_}
 use lib.ListN.{length, getD}
 use Rattle.field.specs.Answer.{pairOf}

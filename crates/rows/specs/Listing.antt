@@ -1,10 +1,10 @@
 -- The rows of document 01's listing, worked out from the definitions.
 -- Assumes nothing.
-use Prim.Native.Nat.{ℕ, _-_, _*_}
+use Prim.Native.Nat.{ℕ, _-_}
 use mathlib.Core.Path.{_≡_, refl}
 use mathlib.Core.List.{List, [], _∷_, _++_}
 use lib.ListN.{replicate}
-use Rattle.field.specs.Told.{accepted, refused}
+use Rattle.field.specs.Told.{refused}
 use Rattle.field.specs.Lists.{each}
 use Rattle.field.specs.Field.{p, firstOver}
 use Rattle.field.specs.Answer.{ofElements}

@@ -2,9 +2,10 @@
 -- Assumes nothing.
 use mathlib.Core.Path.{_≡_, refl, sym, ap, ap₂, _∙_}
 use mathlib.Core.Bool.{Bool, true, false}
-use mathlib.Core.List.{List, [], _∷_}
+use mathlib.Core.List.{List, [], _∷_, _++_}
 use mathlib.Core.Logic.{_⊎_, ⊎-elim, inl, inr}
 use Prim.Native.Nat.{ℕ, zero, suc, _+_, _*_, _≤_, _<_}
+use native.Mathlib.Nat.{add-zero}
 use native.Mathlib.Omega.{arith}
 use lib.Dec.{eqb}
 use borrow.Author.Tests.{eqb-true, eqb-false, eq-eqb, ne-eqb}
@@ -32,6 +33,13 @@ sets-in (w ∷ ws) l i zero h b =
 sets-in (w ∷ ws) l i (suc k) h b =
     let e : i + suc k ≡ suc i + k = omega arith in
     rw e (sets-in ws (set l i w) (suc i) k (simp length-set (omega arith)) (omega arith))
+
+-- stores that go on where others ended
+pub sets-append : (xs ys l : List ℕ) (i : ℕ) → sets (sets l i xs) (i + length xs) ys ≡ sets l i (xs ++ ys)
+sets-append [] ys l i = ap (λ (k : ℕ). sets l k ys) (add-zero i)
+sets-append (x ∷ xs) ys l i =
+    let e : i + suc (length xs) ≡ suc i + length xs = omega arith in
+    ap (λ (k : ℕ). sets (sets (set l i x) (suc i) xs) k ys) e ∙ sets-append xs ys (set l i x) (suc i)
 
 -- the value of a wire that is stored, and of every other wire
 pub value-stored : (vs : List ℕ) (k : ℕ) (v : Pair) → 2 * k + 2 ≤ length vs → valueAt (sets vs (2 * k) (cells v)) k ≡ v
