@@ -145,24 +145,21 @@ fn of_counts(script: &mut Script) {
 
 /// Cells near p, each alone; the first past the used ones does not count. A count may be anything.
 fn of_cells(script: &mut Script) {
-    script.begin();
     let [values, counts, nodes] = exact_of(THREE);
     for i in 0..values + 2 {
         for cell in NEAR_P {
-            script.push(Question::Value(i, cell));
+            script.begin_with_value(i, cell);
             script.both(ALL, three());
         }
-        script.push(Question::Value(i, 1_000 + i as u64));
     }
     for i in 0..nodes + 2 {
         for cell in NEAR_P {
-            script.push(Question::Node(i, cell));
+            script.begin_with_node(i, cell);
             script.both(ALL, three());
         }
-        script.push(Question::Node(i, 3_000 + i as u64));
     }
     for i in 0..counts + 1 {
-        script.push(Question::Count(i, u32::MAX));
+        script.begin_with_count(i, u32::MAX);
         script.both(ALL, three());
     }
     for id_next in [0, 1, 2, 3, 1 << 32, P - 2, P - 1, P, P + 1, u64::MAX] {
@@ -170,15 +167,23 @@ fn of_cells(script: &mut Script) {
     }
 }
 
+/// As many steps done as these counts say, whatever opening says of them.
+fn all_done(num_read: u32, num_eval: u32) -> State {
+    State {
+        num_read,
+        num_eval,
+        reads_done: num_read,
+        evals_done: num_eval,
+        ..finished(SEVEN)
+    }
+}
+
 /// States that no calls give, and such as lack steps.
-fn of_states(script: &mut Script) {
-    script.begin();
+fn states() -> Vec<State> {
     let done = finished(SEVEN);
-    let [ctx, clk, ..] = SEVEN;
     let mut states = vec![done];
-    for reads in 0..=3 {
-        for evals in 0..=4 {
-            let (reads_done, evals_done) = (reads, evals);
+    for reads_done in 0..=3 {
+        for evals_done in 0..=4 {
             states.push(State {
                 reads_done,
                 evals_done,
@@ -199,33 +204,24 @@ fn of_states(script: &mut Script) {
         [1 << 31, 4],
         [0, u32::MAX],
     ];
-    states.extend(counts.map(|[num_read, num_eval]| State {
-        num_read,
-        num_eval,
-        reads_done: num_read,
-        evals_done: num_eval,
-        ..done
-    }));
-    for state in states {
+    states.extend(counts.map(|[num_read, num_eval]| all_done(num_read, num_eval)));
+    states
+}
+
+fn of_states(script: &mut Script) {
+    script.begin();
+    for state in states() {
         script.both(exact_of(SEVEN), Of::State(state));
     }
-    for counts in [[1, 32_766], [2, 32_764], [16_383, 2], [16_383, 3]] {
-        let [num_read, num_eval] = counts;
-        let wires = 2 * num_read + num_eval;
-        let id_next = P - 1;
-        let opened = [ctx, clk, num_read, num_eval];
-        let state = match wires {
-            0..=32_768 => finished(opened),
-            _ => State {
-                num_read,
-                num_eval,
-                reads_done: num_read,
-                evals_done: num_eval,
-                id_next,
-                ..done
-            },
-        };
-        script.both(ALL, Of::State(state));
+    // 32,768 wires are the most; there is no room for so many.
+    for [num_read, num_eval] in [
+        [1, 32_766],
+        [2, 32_764],
+        [16_383, 2],
+        [1, 32_767],
+        [16_383, 3],
+    ] {
+        script.both(ALL, Of::State(all_done(num_read, num_eval)));
     }
 }
 
@@ -247,9 +243,9 @@ fn of_order(script: &mut Script) {
         seven(),
     ];
     for bad in [true, false] {
-        script.begin();
-        if bad {
-            script.push(Question::Value(13, P));
+        match bad {
+            true => script.begin_with_value(13, P),
+            false => script.begin(),
         }
         for of in ofs {
             for lent in [[0; 3], exact_of(SEVEN)] {

@@ -48,7 +48,24 @@ impl Script {
 
     /// Cells below p, no two of them alike.
     pub fn begin(&mut self) {
-        self.push(Question::Begin(1_000, 2_000, 3_000));
+        self.begin_with((VALUES, 0), (COUNTS, 0), (NODES, 0));
+    }
+
+    /// The same, but for one of each.
+    fn begin_with(&mut self, value: (usize, u64), count: (usize, u32), node: (usize, u64)) {
+        self.push(Question::Begin(value, count, node));
+    }
+
+    pub fn begin_with_value(&mut self, i: usize, cell: u64) {
+        self.begin_with((i, cell), (COUNTS, 0), (NODES, 0));
+    }
+
+    pub fn begin_with_count(&mut self, i: usize, count: u32) {
+        self.begin_with((VALUES, 0), (i, count), (NODES, 0));
+    }
+
+    pub fn begin_with_node(&mut self, i: usize, cell: u64) {
+        self.begin_with((VALUES, 0), (COUNTS, 0), (i, cell));
     }
 
     /// Fill and writer, with room enough for output.

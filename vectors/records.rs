@@ -50,6 +50,12 @@ const COUNT_CANARY: u32 = 4_294_000_000;
 const NODE_CANARY: u64 = P + 1_000_000;
 const ROW_CANARY: u64 = P + 2_000_000;
 
+/// What the first cell of each buffer is where a question sets all of them, every one one more than the one
+/// before: elements, no two of them alike.
+pub const FIRST_VALUE: u64 = 1_000;
+pub const FIRST_COUNT: u32 = 2_000;
+pub const FIRST_NODE: u64 = 3_000;
+
 /// How many bytes a question sets.
 pub const STRETCH: usize = 11;
 
@@ -65,11 +71,9 @@ pub enum Of {
 
 #[derive(Clone, Copy)]
 pub enum Question {
-    /// Every value cell, count and node cell one more than the one before.
-    Begin(u64, u32, u64),
-    Value(usize, u64),
-    Count(usize, u32),
-    Node(usize, u64),
+    /// Sets every value cell, count and node cell, and then one of each to another; none where the place is
+    /// past the end.
+    Begin((usize, u64), (usize, u32), (usize, u64)),
     Bytes(usize, [u8; STRETCH]),
     /// How many bytes are there to be read.
     Read(Lengths, usize),
@@ -110,6 +114,12 @@ fn header_numbers(header: &Header) -> [u64; 5] {
         header.num_eval.into(),
         header.id_next,
     ]
+}
+
+fn set<T>(cells: &mut [T], (i, cell): (usize, T)) {
+    if let Some(old) = cells.get_mut(i) {
+        *old = cell;
+    }
 }
 
 impl Of {
@@ -159,10 +169,10 @@ impl Case {
         }
     }
 
-    fn begin(&mut self, value: u64, count: u32, node: u64) {
-        self.values = (0..).map(|i| value.wrapping_add(i)).take(VALUES).collect();
-        self.counts = (0..).map(|i| count.wrapping_add(i)).take(COUNTS).collect();
-        self.nodes = (0..).map(|i| node.wrapping_add(i)).take(NODES).collect();
+    fn rise_from(&mut self, value: u64, count: u32, node: u64) {
+        self.values = (value..).take(VALUES).collect();
+        self.counts = (count..).take(COUNTS).collect();
+        self.nodes = (node..).take(NODES).collect();
     }
 
     fn read(
@@ -170,7 +180,7 @@ impl Case {
         [values, counts, nodes]: Lengths,
         bytes: usize,
     ) -> Result<Vec<u64>, Refusal> {
-        self.begin(VALUE_CANARY, COUNT_CANARY, NODE_CANARY);
+        self.rise_from(VALUE_CANARY, COUNT_CANARY, NODE_CANARY);
         let mut lent = Lent {
             values: &mut self.values[..values],
             counts: &mut self.counts[..counts],
@@ -216,10 +226,12 @@ impl Case {
 
     fn set(&mut self, question: Question) {
         match question {
-            Question::Begin(value, count, node) => self.begin(value, count, node),
-            Question::Value(i, cell) => self.values[i] = cell,
-            Question::Count(i, count) => self.counts[i] = count,
-            Question::Node(i, cell) => self.nodes[i] = cell,
+            Question::Begin(value, count, node) => {
+                self.rise_from(FIRST_VALUE, FIRST_COUNT, FIRST_NODE);
+                set(&mut self.values, value);
+                set(&mut self.counts, count);
+                set(&mut self.nodes, node);
+            }
             Question::Bytes(i, bytes) => self.source[i..][..STRETCH].copy_from_slice(&bytes),
             _ => {}
         }
@@ -253,9 +265,6 @@ impl Question {
     fn letter(&self) -> char {
         match self {
             Question::Begin(..) => 'B',
-            Question::Value(..) => 'V',
-            Question::Count(..) => 'C',
-            Question::Node(..) => 'N',
             Question::Bytes(..) => 'S',
             Question::Read(..) => 'r',
             Question::Fill(_, Of::Record(_), ..) => 'f',
@@ -271,9 +280,9 @@ impl Question {
             [lent.as_slice(), &more, &of.numbers()].concat()
         };
         match *self {
-            Question::Begin(value, count, node) => vec![value, count.into(), node],
-            Question::Value(i, cell) | Question::Node(i, cell) => vec![i as u64, cell],
-            Question::Count(i, count) => vec![i as u64, count.into()],
+            Question::Begin((i, value), (j, count), (k, node)) => {
+                vec![i as u64, value, j as u64, count.into(), k as u64, node]
+            }
             Question::Bytes(i, bytes) => {
                 let bytes = bytes.map(u64::from);
                 [[i as u64].as_slice(), &bytes].concat()

@@ -141,10 +141,14 @@ fn call(letter: u8, numbers: [u64; NUMBERS], values: &[u64], counts: &[u32], nod
     say::bytes(b"\n");
 }
 
+// One cell of each is another; none where the place is past the end.
 fn begin(numbers: [u64; NUMBERS], values: &mut [u64], counts: &mut [u32], nodes: &mut [u64]) {
-    cells::fill(values, numbers[0]);
-    cells::fill_counts(counts, cells::word(numbers[1]));
-    cells::fill(nodes, numbers[2]);
+    cells::fill(values, cells::FIRST_VALUE);
+    cells::set(values, numbers[0] as usize, numbers[1]);
+    cells::fill_counts(counts, cells::FIRST_COUNT);
+    cells::set_count(counts, numbers[2] as usize, cells::word(numbers[3]));
+    cells::fill(nodes, cells::FIRST_NODE);
+    cells::set(nodes, numbers[4] as usize, numbers[5]);
 }
 
 fn read_lent(
@@ -193,21 +197,6 @@ fn set_bytes(source: &mut [u8], numbers: [u64; NUMBERS]) {
     }
 }
 
-fn set_cell(
-    letter: u8,
-    numbers: [u64; NUMBERS],
-    values: &mut [u64],
-    counts: &mut [u32],
-    nodes: &mut [u64],
-) {
-    let at = numbers[0] as usize;
-    match letter {
-        b'V' => cells::set(values, at, numbers[1]),
-        b'C' => cells::set_count(counts, at, cells::word(numbers[1])),
-        _ => cells::set(nodes, at, numbers[1]),
-    }
-}
-
 pub fn answer(
     letter: u8,
     numbers: [u64; NUMBERS],
@@ -218,7 +207,6 @@ pub fn answer(
 ) {
     match letter {
         b'B' => begin(numbers, values, counts, nodes),
-        b'V' | b'C' | b'N' => set_cell(letter, numbers, values, counts, nodes),
         b'S' => set_bytes(source, numbers),
         b'r' => read(numbers, source, values, counts, nodes),
         _ => call(letter, numbers, values, counts, nodes),

@@ -14,6 +14,13 @@ pub const NODE_CANARY: u64 = 18446744069415584321;
 
 pub const ROW_CANARY: u64 = 18446744069416584321;
 
+// What the first cell of each buffer is where a question sets all of them: elements, no two of them alike.
+pub const FIRST_VALUE: u64 = 1000;
+
+pub const FIRST_COUNT: u32 = 2000;
+
+pub const FIRST_NODE: u64 = 3000;
+
 // A number of 32 bits; one that has more is taken for the largest.
 pub fn word(n: u64) -> u32 {
     if 4294967295 < n {

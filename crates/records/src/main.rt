@@ -1,7 +1,7 @@
 // Answers questions on row fill, the record writer and the record reader, a question to a line: a letter
 // and its numbers, each after one space. A capital letter sets something and is not answered: `B` makes
-// every value cell, count and node cell one more than the one before, `V`, `C` and `N` set one of them,
-// `S` sets eleven bytes. `r` reads a record of the bytes into canaries: how many value cells,
+// every value cell, count and node cell an element of its own, and sets a value cell, a count and a node cell
+// to another; `S` sets eleven bytes. `r` reads a record of the bytes into canaries: how many value cells,
 // counts, node cells and bytes are lent. `f` fills rows and `w` writes bytes, from a header (ctx, clk,
 // num_read, num_eval, id_next), `g` and `x` from a step state, which has the steps done too: how many value
 // cells, counts and node cells are lent, then for rows the offset, for bytes what each is at first, and how

@@ -39,9 +39,8 @@ fn with_digit(value: u64, c: u8) -> Value {
 // How many numbers a question has, by its letter.
 fn numbers_of(letter: u8) -> usize {
     match letter {
-        b'V' | b'C' | b'N' => 2,
-        b'B' => 3,
         b'r' => 4,
+        b'B' => 6,
         b'f' | b'w' => 10,
         b'S' | b'g' | b'x' => 12,
         _ => NUMBERS + 1,
