@@ -90,5 +90,6 @@ pub fn read_from(
     if let ReadAnswer::Refused(number, place) = found {
         return HeaderAnswer::Refused(number, place);
     }
-    HeaderAnswer::Header(load(source, values, counts, nodes))
+    let loaded = load(source, values, counts, nodes);
+    HeaderAnswer::Header(loaded)
 }
