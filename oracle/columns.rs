@@ -10,10 +10,9 @@ use crate::CircuitEvaluation;
 pub type Column = (&'static str, u64);
 pub type Row = [Column; ACE_CHIPLET_NUM_COLS];
 
-fn named(row: &mut [Felt], is_read: bool) -> Row {
-    let cols: &mut AceCols<Felt> = row.borrow_mut();
-    let (QuadFeltExpr(v_00, v_01), QuadFeltExpr(v_10, v_11)) = (cols.v_0, cols.v_1);
-    let last = if is_read {
+/// The columns that READ and EVAL rows name otherwise.
+fn named_last(cols: &mut AceCols<Felt>, is_read: bool) -> [(&'static str, Felt); 4] {
+    if is_read {
         let read = cols.read_mut();
         [
             ("num_eval", read.num_eval),
@@ -30,8 +29,13 @@ fn named(row: &mut [Felt], is_read: bool) -> Row {
             ("v_2[1]", v_21),
             ("m_0", eval.m_0),
         ]
-    };
-    let [a, b, c, d] = last;
+    }
+}
+
+fn named(row: &mut [Felt], is_read: bool) -> Row {
+    let cols: &mut AceCols<Felt> = row.borrow_mut();
+    let (QuadFeltExpr(v_00, v_01), QuadFeltExpr(v_10, v_11)) = (cols.v_0, cols.v_1);
+    let [a, b, c, d] = named_last(cols, is_read);
     [
         ("s_start", cols.s_start),
         ("s_block", cols.s_block),

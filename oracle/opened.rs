@@ -1,10 +1,7 @@
 //! What the Rust keeps to itself, as document 01 lays it out in lent memory. A module inside the
 //! Rust's trace.rs, since only such a one sees private fields.
 
-use miden_core::{
-    Felt,
-    field::{BasedVectorSpace, QuadFelt},
-};
+use miden_core::{Felt, field::QuadFelt};
 
 use super::{CircuitEvaluation, EvalNode, ReadNode, WireBus};
 use crate::ContextId;
@@ -21,11 +18,6 @@ pub struct Opened {
     pub nodes: Vec<u64>,
 }
 
-fn pair(v: QuadFelt) -> [Felt; 2] {
-    let coefficients = v.as_basis_coefficients_slice();
-    [coefficients[0], coefficients[1]]
-}
-
 /// "7 a READ node (ptr, id_0, v_0, id_1, v_1)."
 fn read_cells(node: &ReadNode) -> [Felt; 7] {
     let ReadNode {
@@ -35,7 +27,7 @@ fn read_cells(node: &ReadNode) -> [Felt; 7] {
         id_1,
         v_1,
     } = *node;
-    let ([a, b], [c, d]) = (pair(v_0), pair(v_1));
+    let ([a, b], [c, d]) = (v_0.cells(), v_1.cells());
     [ptr, id_0, a, b, id_1, c, d]
 }
 
@@ -51,7 +43,7 @@ fn eval_cells(node: &EvalNode) -> [Felt; 11] {
         id_2,
         v_2,
     } = *node;
-    let ([a, b], [c, d], [e, f]) = (pair(v_0), pair(v_1), pair(v_2));
+    let ([a, b], [c, d], [e, f]) = (v_0.cells(), v_1.cells(), v_2.cells());
     [ptr, eval_op, id_0, a, b, id_1, c, d, id_2, e, f]
 }
 
@@ -109,7 +101,7 @@ impl Opened {
 impl CircuitEvaluation {
     pub fn opened(&self) -> Opened {
         let wires = &self.wire_bus.wires;
-        let values = wires.iter().flat_map(|&(v, _)| pair(v));
+        let values = wires.iter().flat_map(|&(v, _)| v.cells());
         let reads = self.read_nodes.iter().flat_map(read_cells);
         let nodes = reads.chain(self.eval_nodes.iter().flat_map(eval_cells));
         Opened {
