@@ -141,14 +141,15 @@ fn call(letter: u8, numbers: [u64; NUMBERS], values: &[u64], counts: &[u32], nod
     say::bytes(b"\n");
 }
 
-// One cell of each is another; none where the place is past the end.
 fn begin(numbers: [u64; NUMBERS], values: &mut [u64], counts: &mut [u32], nodes: &mut [u64]) {
-    cells::fill(values, cells::FIRST_VALUE);
-    cells::set(values, numbers[0] as usize, numbers[1]);
-    cells::fill_counts(counts, cells::FIRST_COUNT);
-    cells::set_count(counts, numbers[2] as usize, cells::word(numbers[3]));
-    cells::fill(nodes, cells::FIRST_NODE);
-    cells::set(nodes, numbers[4] as usize, numbers[5]);
+    cells::begin(values, cells::FIRST_VALUE, numbers[0] as usize, numbers[1]);
+    cells::begin_counts(
+        counts,
+        cells::FIRST_COUNT,
+        numbers[2] as usize,
+        cells::word(numbers[3]),
+    );
+    cells::begin(nodes, cells::FIRST_NODE, numbers[4] as usize, numbers[5]);
 }
 
 fn read_lent(

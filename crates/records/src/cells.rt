@@ -43,19 +43,7 @@ pub fn least(a: usize, b: usize) -> usize
     if a < b { a } else { b }
 }
 
-// A cell that is not there is not set.
-pub fn set(cells: &mut [u64], at: usize, cell: u64) {
-    if at < cells.len() {
-        cells[at] = cell;
-    }
-}
-
-pub fn set_count(counts: &mut [u32], at: usize, count: u32) {
-    if at < counts.len() {
-        counts[at] = count;
-    }
-}
-
+// A byte that is not there is not set.
 pub fn set_byte(bytes: &mut [u8], at: usize, byte: u8) {
     if at < bytes.len() {
         bytes[at] = byte;
@@ -79,6 +67,21 @@ pub fn fill_counts(counts: &mut [u32], first: u32) {
         counts[i] = canary;
         canary = wrapping_add_u32(canary, 1);
         i += 1;
+    }
+}
+
+// One cell is another; none where the place is past the end.
+pub fn begin(cells: &mut [u64], first: u64, at: usize, cell: u64) {
+    fill(cells, first);
+    if at < cells.len() {
+        cells[at] = cell;
+    }
+}
+
+pub fn begin_counts(counts: &mut [u32], first: u32, at: usize, count: u32) {
+    fill_counts(counts, first);
+    if at < counts.len() {
+        counts[at] = count;
     }
 }
 
