@@ -14,7 +14,8 @@ use Rattle.numbers.specs.Form.{bytesOf, widthOf}
 use Rattle.numbers.specs.Answer.{writeAnswer}
 use Rattle.numbers.proofs.Writing.{room-answer}
 use Rattle.record.specs.Bytes.{bytesOfAll, wireNumbers}
-use Rattle.record.proofs.Widths.{taken, taken-none, taken-more, taken-append, bytes-one, bytes-append, cells-next, cells-taken, cells-within, wires-next, wires-within}
+use Rattle.record.proofs.Ways.{clash}
+use Rattle.record.proofs.Widths.{taken, taken-none, taken-more, taken-append, bytes-none, bytes-one, bytes-append, cells-next, cells-taken, cells-within, wires-next, wires-within}
 
 -- `put` where there is room
 abbrev first : Told → ℕ
@@ -22,12 +23,9 @@ first (accepted []) = 0
 first (accepted (v ∷ vs)) = v
 first (refused number place) = 0
 
-clash : (number place : ℕ) (vs : List ℕ) → refused number place ≡ accepted vs → ⊥
-clash number place vs e = let z : _≡_ {A = ℕ} 0 1 = cc in absurd (omega arith)
-
 module _ (v : ℕ) (out : List ℕ) (at : ℕ) (h : at + widthOf v ≤ length out) where
   pub put-refused : (number place : ℕ) → refused number place ≡ writeAnswer v out at → ⊥
-  put-refused number place e = clash number place _ (e ∙ room-answer v out at h)
+  put-refused number place e = clash (e ∙ room-answer v out at h)
 
   pub put-next : (next : ℕ) → accepted (next ∷ []) ≡ writeAnswer v out at → next ≡ at + widthOf v
   put-next next e = ap first (e ∙ room-answer v out at h)
@@ -41,8 +39,7 @@ pub wrote : (old : List ℕ) (at : ℕ) (vs out : List ℕ) (next : ℕ) → nex
 wrote old at vs out next e q = record { place = e; bytes = q }
 
 pub wrote-none : (old : List ℕ) (at : ℕ) → Wrote old at [] old at
-unfolding bytesOfAll
-wrote-none old at = record { place = omega (arith, taken-none); bytes = refl }
+wrote-none old at = record { place = omega (arith, taken-none); bytes = ap (λ (l : List ℕ). sets old at l) (sym bytes-none) }
 
 pub wrote-one : (old : List ℕ) (at v : ℕ) (out : List ℕ) (next : ℕ) → next ≡ at + widthOf v → out ≡ sets old at (bytesOf v) → Wrote old at (v ∷ []) out next
 wrote-one old at v out next e q =

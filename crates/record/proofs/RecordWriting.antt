@@ -36,6 +36,9 @@ module _ (h : RecordHeader) (b : Lent) (out : List ℕ) where
   pub write-kept : (number place : ℕ) → refused number place ≡ writeIntoAnswer h b out → out ≡ writtenInto h b out
   write-kept number place e = ap (λ (t : Told). changed t (sets out 0 (recordBytes h b)) out) e
 
+  pub write-left : (vs : List ℕ) → accepted vs ≡ writeIntoAnswer h b out → sets out 0 (recordBytes h b) ≡ writtenInto h b out
+  write-left vs e = ap (λ (t : Told). changed t (sets out 0 (recordBytes h b)) out) e
+
   pub write-stops : (number place : ℕ) → refused number place ≡ ofRecord h b (accepted []) → refused number place ≡ writeIntoAnswer h b out
   unfolding writeIntoAnswer
   write-stops number place e = record-stops h b (ofBytes (recordBytes h b) out) number place e
@@ -53,7 +56,7 @@ module _ (h : RecordHeader) (b : Lent) (out : List ℕ) where
       write-goes = ap (λ (n : ℕ). accepted (n ∷ [])) e ∙ sym (bytes-fit (recordBytes h b) out (rw (sym e) l)) ∙ goes
 
       pub write-leaves : (left : List ℕ) → left ≡ sets out 0 (recordBytes h b) → left ≡ writtenInto h b out
-      write-leaves left q = q ∙ ap (λ (t : Told). changed t (sets out 0 (recordBytes h b)) out) write-goes
+      write-leaves left q = q ∙ write-left (width ∷ []) write-goes
 
 module _ (s : CircuitEvaluation) (b : Lent) (out : List ℕ) where
   pub state-kept : (number place : ℕ) → refused number place ≡ writeStateAnswer s b out → out ≡ writtenState s b out

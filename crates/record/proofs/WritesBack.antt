@@ -18,10 +18,13 @@ use Rattle.trace.proofs.Records.{Recorded}
 use Rattle.record.specs.Bytes.{wireNumbers, bytesOfAll, recordNumbers, recordBytes, writeIntoAnswer, writtenInto}
 use Rattle.record.specs.Numbers.{numbersFrom}
 use Rattle.record.specs.Reading.{ctxIn, clkIn, idNextIn, wiresIn, wiresAt, readsIn, readsAt, evalsIn, evalsAt, endAt, headerIn, readFromAnswer, recordIn, readBuffers}
-use Rattle.record.proofs.Sequence.{AllBelow, below-at, below-append, from-length, stand-from, stand-written}
+use Rattle.record.proofs.Places.{length-from}
+use Rattle.record.proofs.Sequence.{AllBelow, below-at, below-append, stand-from, stand-written}
 use Rattle.record.proofs.WireList.{values-length, counts-length}
-use Rattle.record.proofs.FieldsFound.{valuesIn, countsIn, readCellsIn, evalCellsIn, numbersIn, Accepted, accepted-of, record-in, after-reading}
-use Rattle.record.proofs.Used.{used, laid-equal, held-numbers, front-taken, lent-equal}
+use Rattle.record.proofs.FieldsFound.{valuesIn, countsIn, readCellsIn, evalCellsIn, numbersIn, Accepted, accepted-of, record-in}
+use Rattle.record.proofs.Standing.{leaves-record}
+use Rattle.record.proofs.Loads.{lent-equal}
+use Rattle.record.proofs.Used.{used, laid-equal, held-numbers, front-taken}
 use Rattle.record.proofs.Writer.{writer-accepts, written-of}
 
 -- the header with the numbers that stand in bytes
@@ -59,10 +62,10 @@ module _ (s : List ℕ) (b : Lent) (h : RecordHeader)
   counts-many = omega (arith, counts-length (wiresIn s) s (wiresAt s), wires-same)
 
   reads-many : length (readCellsIn s) ≡ 7 * h .«num_read»
-  reads-many = omega (arith, from-length (7 * readsIn s) s (readsAt s), e .reads-are)
+  reads-many = omega (arith, length-from (7 * readsIn s) s (readsAt s), e .reads-are)
 
   evals-many : length (evalCellsIn s) ≡ 11 * h .«num_eval»
-  evals-many = omega (arith, from-length (11 * evalsIn s) s (evalsAt s), e .evals-are)
+  evals-many = omega (arith, length-from (11 * evalsIn s) s (evalsAt s), e .evals-are)
 
   nodes-many : length (readCellsIn s ++ evalCellsIn s) ≡ recordCells h
   nodes-many = omega (arith, length-append (readCellsIn s) (evalCellsIn s), reads-many, evals-many)
@@ -111,15 +114,14 @@ module _ (s : List ℕ) (b : Lent) (h : RecordHeader)
           for-counts = omega (arith, a .room-counts, wires-same, length-sets (b .counts) 0 (countsIn s));
           for-nodes = omega (arith, a .room-nodes, e .reads-are, e .evals-are, length-sets (b .nodes) 0 (readCellsIn s ++ evalCellsIn s));
         };
-        values-in = first-below (2 * recordWires h) _ (valuesIn s) values-used values-many (a .values-below);
+        values-in = first-below (2 * recordWires h) _ (valuesIn s) values-used values-many (a .list .elements);
         nodes-in = first-below (recordCells h) _ (readCellsIn s ++ evalCellsIn s) nodes-used nodes-many (below-append p (readCellsIn s) (evalCellsIn s) (a .reads-below) (a .evals-below));
         id-in = omega (arith, a .id-below, e .id-is);
       })
 
   read-bytes : Bytes s → recordBytes h (recordIn s b) ≡ s
   read-bytes hb =
-      let w = stand-written (numbersIn s) s 0 (endAt s) hb (omega arith) (a .stand) in
-      ap bytesOfAll read-numbers ∙ sym (w .bytes) ∙ take-all (endAt s) s (a .all-read)
+      ap bytesOfAll read-numbers ∙ sym (stand-written (numbersIn s) s 0 (endAt s) hb (omega arith) (a .stand)) ∙ take-all (endAt s) s (a .all-read)
 
 -- The reader answers the header that stands in the bytes.
 pub answers-header : (s : List ℕ) (b : Lent) (vs : List ℕ) → readFromAnswer s b ≡ accepted vs → vs ≡ headerIn s
@@ -149,4 +151,4 @@ pub writes-back : (s : List ℕ) (b : Lent) (vs : List ℕ) (h : RecordHeader) �
 writes-back s b vs h hb e q =
     let a = accepted-of s b vs e in
     let f = header-of h s (q ∙ sym (a .1)) in
-    subst (WritesBack s h) (sym (after-reading s b vs e)) (recorded-back s h (recordIn s b) (read-in-order s b h (a .0) f) (read-bytes s b h (a .0) f hb) (read-recorded s b h (a .0) f))
+    subst (WritesBack s h) (leaves-record s b vs (sym e)) (recorded-back s h (recordIn s b) (read-in-order s b h (a .0) f) (read-bytes s b h (a .0) f hb) (read-recorded s b h (a .0) f))
