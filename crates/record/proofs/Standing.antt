@@ -7,7 +7,7 @@ use native.Mathlib.Omega.{arith}
 use lib.ListN.{length}
 use Rattle.field.specs.Told.{Told, accepted, refused}
 use Rattle.trace.specs.Outcome.{Lent}
-use Rattle.record.specs.Reading.{wiresIn, wiresAt, fieldsAnswer, headerIn, readFromAnswer, recordIn, buffersRead, readBuffers}
+use Rattle.record.specs.Reading.{wiresIn, wiresAt, fieldsAnswer, headerIn, readFromAnswer, buffersRead, readBuffers}
 use Rattle.record.specs.Inside.{Wires, Found}
 use Rattle.record.proofs.Ways.{goes-on, stops}
 use Rattle.record.proofs.WireList.{found-accepted}
@@ -47,8 +47,6 @@ module _ (s : List ℕ) (b : Lent) where
   unfolding readFromAnswer
   header-answered vs e = sym (goes-on _ (accepted (headerIn s)) vs e)
 
-  pub leaves-all : (number place : ℕ) → refused number place ≡ readFromAnswer s b → b ≡ readBuffers s b
-  leaves-all n k e = ap (λ (t : Told). buffersRead t s b) e
-
-  pub leaves-record : (vs : List ℕ) → accepted vs ≡ readFromAnswer s b → recordIn s b ≡ readBuffers s b
-  leaves-record vs e = ap (λ (t : Told). buffersRead t s b) e
+  -- what is left after an answer
+  pub leaves : (t : Told) → t ≡ readFromAnswer s b → buffersRead t s b ≡ readBuffers s b
+  leaves t e = ap (λ (x : Told). buffersRead x s b) e

@@ -61,5 +61,5 @@ written-of h b out vs e =
       recorded = r .0;
       answer = sym (told (q .1));
       inside = l;
-      bytes = sym (write-left h b out vs (sym e)) ∙ front-set (length (recordBytes h b)) (recordBytes h b) out refl l;
+      bytes = sym (write-left h b out (accepted vs) (sym e)) ∙ front-set (length (recordBytes h b)) (recordBytes h b) out refl l;
     }

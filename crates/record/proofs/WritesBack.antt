@@ -22,7 +22,7 @@ use Rattle.record.proofs.Places.{length-from}
 use Rattle.record.proofs.Sequence.{AllBelow, below-at, below-append, stand-from, stand-written}
 use Rattle.record.proofs.WireList.{values-length, counts-length}
 use Rattle.record.proofs.FieldsFound.{valuesIn, countsIn, readCellsIn, evalCellsIn, numbersIn, Accepted, accepted-of, record-in}
-use Rattle.record.proofs.Standing.{leaves-record}
+use Rattle.record.proofs.Standing.{leaves}
 use Rattle.record.proofs.Loads.{lent-equal}
 use Rattle.record.proofs.Used.{used, laid-equal, held-numbers, front-taken}
 use Rattle.record.proofs.Writer.{writer-accepts, written-of}
@@ -151,4 +151,4 @@ pub writes-back : (s : List ℕ) (b : Lent) (vs : List ℕ) (h : RecordHeader) �
 writes-back s b vs h hb e q =
     let a = accepted-of s b vs e in
     let f = header-of h s (q ∙ sym (a .1)) in
-    subst (WritesBack s h) (leaves-record s b vs (sym e)) (recorded-back s h (recordIn s b) (read-in-order s b h (a .0) f) (read-bytes s b h (a .0) f hb) (read-recorded s b h (a .0) f))
+    subst (WritesBack s h) (leaves s b (accepted vs) (sym e)) (recorded-back s h (recordIn s b) (read-in-order s b h (a .0) f) (read-bytes s b h (a .0) f hb) (read-recorded s b h (a .0) f))
