@@ -72,10 +72,6 @@ written-stand (x ∷ xs) s before rest at end b es ea ee =
 
 -- numbers that stand are the numbers that are found there
 
-pub stand-after : (xs s : List ℕ) (at end : ℕ) → Stand xs s at end → after (length xs) s at ≡ end
-stand-after [] s at end h = after-none s at ∙ h
-stand-after (x ∷ xs) s at end h = after-more (length xs) s at ∙ stand-after xs s (nextAt s at) end (h .1)
-
 pub stand-from : (xs s : List ℕ) (at end : ℕ) → Stand xs s at end → numbersFrom (length xs) s at ≡ xs
 stand-from [] s at end h = from-none s at
 stand-from (x ∷ xs) s at end h =

@@ -15,7 +15,6 @@ use Rattle.record.proofs.WireList.{values-none, values-more, counts-non
 use Rattle.trace.proofs.Stores.{sets-append}
 
 pub record WiresLoading (s : List ℕ) (at n : ℕ) (old-values old-counts values counts : List ℕ) (next k : ℕ) : Type 0 where
-  pub within : k ≤ n
   pub same-values : length values ≡ length old-values
   pub same-counts : length counts ≡ length old-counts
   pub stand : Wires (n - k) s next
@@ -27,7 +26,6 @@ module _ (s : List ℕ) (at n : ℕ) (old-values old-counts : List ℕ) where
   pub wires-start : Wires n s at → WiresLoading s at n old-values old-counts old-values old-counts at 0
   wires-start w =
       record {
-        within = omega arith;
         same-values = refl;
         same-counts = refl;
         stand = subst (λ (k : ℕ). Wires k s at) (sym (sub-zero n)) w;
@@ -80,7 +78,6 @@ module _ (s : List ℕ) (at n : ℕ) (old-values old-counts : List ℕ) where
           → WiresLoading s at n old-values old-counts values′ (set counts k v) place (k + 1)
       wires-next values′ q =
           record {
-            within = omega arith;
             same-values = ap (λ (x : List ℕ). length x) q ∙ length-sets values (2 * k) (numbersFrom 2 s next) ∙ l .same-values;
             same-counts = length-set counts k v ∙ l .same-counts;
             stand = subst (λ (j : ℕ). Wires (n - (k + 1)) s j) (sym third) (wires-behind (n - (k + 1)) s next (left h));
