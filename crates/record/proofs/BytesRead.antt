@@ -1,16 +1,15 @@
 -- The bytes of a record that passes the writer's tests are accepted by the reader, and the record is what it finds.
 -- Assumes nothing.
-use Prim.Native.Nat.{ℕ, zero, suc, _+_, _*_, _^_, _≤_, _<_}
+use Prim.Native.Nat.{ℕ, _+_, _*_, _^_, _<_}
 use mathlib.Core.Path.{_≡_, refl, sym, ap₂, _∙_, subst}
 use mathlib.Core.List.{List, [], _∷_, _++_, append-nil}
 use native.Mathlib.Nat.{zero-add}
 use native.Mathlib.Omega.{arith}
 use lib.ListN.{length, getD, take, drop, length-drop}
-use lib.Seq.{getD-take, getD-drop, length-take-le, take-add}
+use lib.Seq.{length-take-le, take-add}
 use Rattle.field.specs.Told.{accepted}
 use Rattle.field.specs.Field.{p}
 use Rattle.field.specs.Lists.{each}
-use Rattle.field.proofs.Each.{each-none, each-more}
 use Rattle.numbers.proofs.Below.{below-accepted}
 use Rattle.trace.specs.declared.RecordHeader.{RecordHeader}
 use Rattle.trace.specs.Outcome.{Lent}
@@ -36,7 +35,8 @@ use Rattle.record.specs.Reading.{
   fieldsAnswer,
   headerIn,
 }
-use Rattle.record.proofs.Sequence.{AllBelow, below-wider, below-append, all-below, Stand, written-stand}
+use Rattle.record.proofs.Bounds.{AllBelow, below-wider, below-append, each-below, part-below}
+use Rattle.record.proofs.Sequence.{Stand, written-stand}
 use Rattle.record.proofs.WireList.{wires-used}
 use Rattle.record.proofs.RecordParts.{wireList, readList, evalList}
 use Rattle.record.proofs.Loads.{header-is}
@@ -44,22 +44,6 @@ use Rattle.record.proofs.Tests.{declared-is, ends}
 use Rattle.record.proofs.Fields.{fields-end}
 use Rattle.record.proofs.FieldsFound.{valuesIn, countsIn, readCellsIn, evalCellsIn}
 use Rattle.record.proofs.FieldsRead.{HeadRead, head-read, ListRead, list-read, LengthsRead, lengths-read, nodes-pass, ReadsRead, reads-read, EvalsRead, evals-read}
-
--- parts that are below a bound, one after the other
-each-below : (bound : ℕ) (f : ℕ → List ℕ) (n : ℕ) → ((k : ℕ) → k < n → AllBelow bound (f k)) → AllBelow bound (each f n)
-each-below bound f zero h = subst (AllBelow bound) (sym (each-none f)) tt
-each-below bound f (suc n) h =
-    subst (AllBelow bound) (sym (each-more f n)) (below-append bound (each f n) (f n) (each-below bound f n (λ k l. h k (omega arith))) (h n (omega arith)))
-
--- cells behind others that are below a bound
-part-below : (bound from n : ℕ) (xs : List ℕ) → from + n ≤ length xs → ((k : ℕ) → k < from + n → getD xs k 0 < bound) → AllBelow bound (take n (drop from xs))
-part-below bound from n xs l h =
-    let d = length-drop from xs in
-    let m = length-take-le n (drop from xs) (omega arith) in
-    all-below bound (take n (drop from xs))
-    (λ k i.
-    let j : k < n = omega arith in
-    subst (λ (v : ℕ). v < bound) (sym (getD-take n (drop from xs) k 0 j ∙ getD-drop from xs k 0)) (h (from + k) (omega arith)))
 
 -- a record that the writer's tests pass, and whose ctx, clk and counts are of 32 bits
 module _ (h : RecordHeader) (b : Lent) (r : Recorded h b)

@@ -38,7 +38,8 @@ use Rattle.record.specs.Reading.{
   recordIn,
 }
 use Rattle.record.proofs.Ways.{told, passed}
-use Rattle.record.proofs.Sequence.{AllBelow, Stand, stand-join}
+use Rattle.record.proofs.Bounds.{AllBelow}
+use Rattle.record.proofs.Sequence.{Stand, stand-join}
 use Rattle.record.proofs.WireList.{WiresFound, wires-of}
 use Rattle.record.proofs.Heads.{head-of, list-of}
 use Rattle.record.proofs.Tests.{declared-of, nodes-of, end-of}

@@ -31,7 +31,8 @@ use Rattle.record.specs.Reading.{
   nodesAnswer,
 }
 use Rattle.record.proofs.Places.{number-is, read-of}
-use Rattle.record.proofs.Sequence.{AllBelow, Stand, stand-from, stand-split-at}
+use Rattle.record.proofs.Bounds.{AllBelow}
+use Rattle.record.proofs.Sequence.{Stand, stand-from, stand-split-at}
 use Rattle.record.proofs.Numbers.{numbers-pass}
 use Rattle.record.proofs.WireList.{wires-length, wires-read}
 use Rattle.record.proofs.Heads.{head-is, list-fits}

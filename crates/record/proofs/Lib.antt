@@ -1,6 +1,7 @@
 pub mod Ways
 pub mod Places
 pub mod Widths
+pub mod Bounds
 pub mod Sequence
 pub mod Numbers
 pub mod Wires

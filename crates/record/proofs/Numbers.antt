@@ -11,7 +11,8 @@ use Rattle.numbers.proofs.Below.{below-accepted, below-is-read}
 use Rattle.record.specs.Numbers.{nextAt, after, numbersFrom, numbersAnswer}
 use Rattle.record.proofs.Ways.{values-are, goes-on, stops, passed}
 use Rattle.record.proofs.Places.{next-is, below-of, after-add, length-from}
-use Rattle.record.proofs.Sequence.{AllBelow, Stand}
+use Rattle.record.proofs.Bounds.{AllBelow}
+use Rattle.record.proofs.Sequence.{Stand}
 
 -- n numbers from a place on are read one after the other, and are below a bound
 abbrev pub FoundBelow : ℕ → ℕ → List ℕ → ℕ → Type 0

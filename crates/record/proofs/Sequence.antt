@@ -1,10 +1,10 @@
 -- Numbers that stand in bytes one after the other: what is written is read, and what is read is what is written.
 -- Assumes nothing.
-use Prim.Native.Nat.{ℕ, zero, suc, _+_, _^_, _≤_, _<_}
+use Prim.Native.Nat.{ℕ, _+_, _^_, _≤_}
 use mathlib.Core.Path.{_≡_, sym, ap, ap₂, _∙_, subst}
 use mathlib.Core.List.{List, [], _∷_, _++_, append-assoc, append-nil}
 use native.Mathlib.Omega.{arith}
-use lib.ListN.{length, getD, take, length-append, take-append-drop}
+use lib.ListN.{length, take, length-append, take-append-drop}
 use lib.Seq.{take-take}
 use Rattle.field.specs.Told.{accepted}
 use Rattle.numbers.specs.Form.{bytesOf, widthOf}
@@ -13,37 +13,14 @@ use Rattle.numbers.proofs.Groups.{width-counts}
 use Rattle.numbers.proofs.RoundTrip.{written-is-read, read-is-written, Read, Bytes}
 use Rattle.record.specs.Bytes.{bytesOfAll}
 use Rattle.record.specs.Numbers.{nextAt, after, numbersFrom}
+use Rattle.record.proofs.Bounds.{AllBelow}
 use Rattle.record.proofs.Places.{number-is, next-is, after-none, after-more, from-none, from-more}
 use Rattle.record.proofs.Widths.{bytes-none, bytes-more, taken-none, taken-more}
-
--- every number of a list is below a bound
-abbrev pub AllBelow : ℕ → List ℕ → Type 0
-AllBelow bound [] = Unit {0}
-AllBelow bound (x ∷ xs) = (x < bound) × AllBelow bound xs
 
 -- the numbers xs are read from s one after the other, the first at a place, and end is the place after the last
 abbrev pub Stand : List ℕ → List ℕ → ℕ → ℕ → Type 0
 Stand [] s at end = at ≡ end
 Stand (x ∷ xs) s at end = (readAnswer s at ≡ accepted (x ∷ nextAt s at ∷ [])) × Stand xs s (nextAt s at) end
-
--- bounds
-
-pub below-wider : (low high : ℕ) (xs : List ℕ) → low ≤ high → AllBelow low xs → AllBelow high xs
-below-wider low high [] h b = tt
-below-wider low high (x ∷ xs) h b = let l = b .0 in (omega arith, below-wider low high xs h (b .1))
-
-pub below-append : (bound : ℕ) (xs ys : List ℕ) → AllBelow bound xs → AllBelow bound ys → AllBelow bound (xs ++ ys)
-below-append bound [] ys h k = k
-below-append bound (x ∷ xs) ys h k = (h .0, below-append bound xs ys (h .1) k)
-
-pub below-at : (bound : ℕ) (xs : List ℕ) → AllBelow bound xs → (k : ℕ) → k < length xs → getD xs k 0 < bound
-below-at bound [] h k l = absurd (omega arith)
-below-at bound (x ∷ xs) h zero l = h .0
-below-at bound (x ∷ xs) h (suc k) l = below-at bound xs (h .1) k (omega arith)
-
-pub all-below : (bound : ℕ) (xs : List ℕ) → ((k : ℕ) → k < length xs → getD xs k 0 < bound) → AllBelow bound xs
-all-below bound [] h = tt
-all-below bound (x ∷ xs) h = (h 0 (omega arith), all-below bound xs (λ k l. h (suc k) (omega arith)))
 
 -- What is written is read.
 

@@ -16,7 +16,8 @@ use Rattle.record.specs.Reading.{u32, wireAnswer, wiresAnswer, valuesFro
 use Rattle.record.specs.Inside.{Wires}
 use Rattle.record.proofs.Ways.{passed}
 use Rattle.record.proofs.Places.{number-is, after-none, after-two, from-none}
-use Rattle.record.proofs.Sequence.{AllBelow, Stand, stand-join, stand-split-at}
+use Rattle.record.proofs.Bounds.{AllBelow}
+use Rattle.record.proofs.Sequence.{Stand, stand-join, stand-split-at}
 use Rattle.record.proofs.Numbers.{numbers-of, numbers-pass}
 use Rattle.record.proofs.Wires.{wires-none, wires-more, wire-on, counted}
 

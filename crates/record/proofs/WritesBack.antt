@@ -1,11 +1,11 @@
 -- Read writes back: bytes that the reader accepts are those that the writer writes of what was read.
 -- Assumes nothing.
-use Prim.Native.Nat.{ℕ, _*_, _≤_, _<_}
+use Prim.Native.Nat.{ℕ, _*_, _≤_}
 use mathlib.Core.Path.{_≡_, refl, sym, ap, _∙_, subst}
 use mathlib.Core.List.{List, [], _∷_, _++_}
 use native.Mathlib.Omega.{arith}
 use lib.ListN.{length, getD, take, drop, length-append}
-use lib.Seq.{sets, length-sets, getD-take, take-all}
+use lib.Seq.{sets, length-sets, take-all}
 use Rattle.field.specs.Told.{accepted}
 use Rattle.field.specs.Field.{p}
 use Rattle.field.specs.Lists.{each}
@@ -19,7 +19,8 @@ use Rattle.record.specs.Bytes.{wireNumbers, bytesOfAll, recordNumbers, r
 use Rattle.record.specs.Numbers.{numbersFrom}
 use Rattle.record.specs.Reading.{ctxIn, clkIn, idNextIn, wiresIn, wiresAt, readsIn, readsAt, evalsIn, evalsAt, endAt, headerIn, readFromAnswer, recordIn, readBuffers}
 use Rattle.record.proofs.Places.{length-from}
-use Rattle.record.proofs.Sequence.{AllBelow, below-at, below-append, stand-from, stand-written}
+use Rattle.record.proofs.Bounds.{below-append, first-below}
+use Rattle.record.proofs.Sequence.{stand-from, stand-written}
 use Rattle.record.proofs.WireList.{values-length, counts-length}
 use Rattle.record.proofs.FieldsFound.{valuesIn, countsIn, readCellsIn, evalCellsIn, numbersIn, Accepted, accepted-of, record-in}
 use Rattle.record.proofs.Standing.{leaves}
@@ -44,10 +45,6 @@ header-of h s e =
       evals-are = ap (λ (l : List ℕ). getD l 3 0) e;
       id-is = ap (λ (l : List ℕ). getD l 4 0) e;
     }
-
-first-below : (n : ℕ) (xs ys : List ℕ) → take n xs ≡ ys → length ys ≡ n → AllBelow p ys → (k : ℕ) → k < n → getD xs k 0 < p
-first-below n xs ys e l b k h =
-    subst (λ (v : ℕ). v < p) (sym (ap (λ (ws : List ℕ). getD ws k 0) e) ∙ getD-take n xs k 0 h) (below-at p ys b k (omega arith))
 
 -- bytes s that are accepted for the buffers b, and the header h that stands in them
 module _ (s : List ℕ) (b : Lent) (h : RecordHeader)
@@ -114,8 +111,8 @@ module _ (s : List ℕ) (b : Lent) (h : RecordHeader)
           for-counts = omega (arith, a .room-counts, wires-same, length-sets (b .counts) 0 (countsIn s));
           for-nodes = omega (arith, a .room-nodes, e .reads-are, e .evals-are, length-sets (b .nodes) 0 (readCellsIn s ++ evalCellsIn s));
         };
-        values-in = first-below (2 * recordWires h) _ (valuesIn s) values-used values-many (a .list .elements);
-        nodes-in = first-below (recordCells h) _ (readCellsIn s ++ evalCellsIn s) nodes-used nodes-many (below-append p (readCellsIn s) (evalCellsIn s) (a .reads-below) (a .evals-below));
+        values-in = first-below p (2 * recordWires h) _ (valuesIn s) values-used values-many (a .list .elements);
+        nodes-in = first-below p (recordCells h) _ (readCellsIn s ++ evalCellsIn s) nodes-used nodes-many (below-append p (readCellsIn s) (evalCellsIn s) (a .reads-below) (a .evals-below));
         id-in = omega (arith, a .id-below, e .id-is);
       })
 
