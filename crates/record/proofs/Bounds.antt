@@ -22,12 +22,12 @@ pub below-append : (bound : ℕ) (xs ys : List ℕ) → AllBelow bound xs → Al
 below-append bound [] ys h k = k
 below-append bound (x ∷ xs) ys h k = (h .0, below-append bound xs ys (h .1) k)
 
-pub below-at : (bound : ℕ) (xs : List ℕ) → AllBelow bound xs → (k : ℕ) → k < length xs → getD xs k 0 < bound
+below-at : (bound : ℕ) (xs : List ℕ) → AllBelow bound xs → (k : ℕ) → k < length xs → getD xs k 0 < bound
 below-at bound [] h k l = absurd (omega arith)
 below-at bound (x ∷ xs) h zero l = h .0
 below-at bound (x ∷ xs) h (suc k) l = below-at bound xs (h .1) k (omega arith)
 
-pub all-below : (bound : ℕ) (xs : List ℕ) → ((k : ℕ) → k < length xs → getD xs k 0 < bound) → AllBelow bound xs
+all-below : (bound : ℕ) (xs : List ℕ) → ((k : ℕ) → k < length xs → getD xs k 0 < bound) → AllBelow bound xs
 all-below bound [] h = tt
 all-below bound (x ∷ xs) h = (h 0 (omega arith), all-below bound xs (λ k l. h (suc k) (omega arith)))
 

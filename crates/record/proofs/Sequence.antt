@@ -61,7 +61,7 @@ pub stand-join : (xs ys s : List ℕ) (at middle end : ℕ) → Stand xs s at mi
 stand-join [] ys s at middle end h k = subst (λ (i : ℕ). Stand ys s i end) (sym h) k
 stand-join (x ∷ xs) ys s at middle end h k = (h .0, stand-join xs ys s (nextAt s at) middle end (h .1) k)
 
-pub stand-split : (xs ys s : List ℕ) (at end : ℕ) → Stand (xs ++ ys) s at end → Stand xs s at (after (length xs) s at) × Stand ys s (after (length xs) s at) end
+stand-split : (xs ys s : List ℕ) (at end : ℕ) → Stand (xs ++ ys) s at end → Stand xs s at (after (length xs) s at) × Stand ys s (after (length xs) s at) end
 stand-split [] ys s at end h = let z = after-none s at in (sym z, subst (λ (i : ℕ). Stand ys s i end) (sym z) h)
 stand-split (x ∷ xs) ys s at end h =
     let z = after-more (length xs) s at in

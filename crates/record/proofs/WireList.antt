@@ -36,7 +36,7 @@ each-front f (suc n) =
     ∙ ap (λ (l : List ℕ). f 0 ++ l) (sym (each-more (λ (k : ℕ). f (suc k)) n))
 
 -- the first wire's, then the others'
-pub wires-cons : (a b c : ℕ) (vs cs : List ℕ) (n : ℕ) → each (wireNumbers (a ∷ b ∷ vs) (c ∷ cs)) (suc n) ≡ a ∷ b ∷ c ∷ each (wireNumbers vs cs) n
+wires-cons : (a b c : ℕ) (vs cs : List ℕ) (n : ℕ) → each (wireNumbers (a ∷ b ∷ vs) (c ∷ cs)) (suc n) ≡ a ∷ b ∷ c ∷ each (wireNumbers vs cs) n
 wires-cons a b c vs cs n =
     each-front (wireNumbers (a ∷ b ∷ vs) (c ∷ cs)) n
     ∙ ap (λ (l : List ℕ). a ∷ b ∷ c ∷ l) (each-equal (λ (k : ℕ). wireNumbers (a ∷ b ∷ vs) (c ∷ cs) (suc k)) (wireNumbers vs cs) n (λ k l. shifted k))
