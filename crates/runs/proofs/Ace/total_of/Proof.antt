@@ -14,8 +14,18 @@ Inv-loop n self rows₀ i₀ rows i = (i ≤ n) × (rows ≤ 2 ^ 33 * i) × (row
 abbrev μ-loop : tie.MeasureT-loop
 μ-loop n self rows₀ i₀ rows i = n - i
 
-len : (c : tie.Start) → length (c .args .t1 .entries) ≡ 32
+len : (c : tie.Start Inv-loop μ-loop) → length (c .args .t1 .entries) ≡ 32
 len c = search needs
+
+len2 : (c : tie.Start Inv-loop μ-loop) → length (c .args .t1 .entries) ≡ 32
+len2 c = let g = c .good in ?
+
+len3 : (c : tie.After-struct-known Inv-loop μ-loop) → length (c .before .before .before .before .args .t1 .entries) ≡ 32
+len3 c = let g = c .struct-known .given in let h = c .before .entry .given in ?
+
+len4 : (c : tie.After-struct-known Inv-loop μ-loop) → length (c .before .before .before .before .args .t1 .entries) ≡ 32
+len4 c = search needs
+
 
 -- src/entries.rt:49:9
 loop-holds : tie.Need-loop-holds Inv-loop μ-loop

@@ -1,0 +1,5 @@
+pub mod Held
+pub mod Orders
+pub mod Places
+pub mod Opened
+pub mod Calls
