@@ -19,6 +19,7 @@ use Rattle.runs.specs.declared.Ace.{Ace}
 use Rattle.runs.specs.Entries.{inOrder, total, rowsBefore, hasClock, insert}
 use Rattle.runs.specs.Calls.{mostRuns, used, soundList, totalAnswer, firstRowAnswer, addAnswer, withUsed, listAfter}
 use Rattle.runs.specs.Inside.{placeOf, noEntry, isAt, replaced, opened, openedAt}
+use Rattle.runs.proofs.Scans.{listOf}
 use Rattle.runs.proofs.Places.{found, found-has, before-place, insert-found, insert-new, place-within}
 use Rattle.runs.proofs.Opened.{opened-length, opened-used, set-used}
 
@@ -63,9 +64,6 @@ total-before a clock l s =
     ∙ sym (before-place (used a) 0 clock (s .order))
 
 -- the list after a run is added
-abbrev pub listOf : List Entry → ℕ → Ace
-listOf es n = record { entries = es; len = n }
-
 pub replaced-is : (a : Ace) (e : Entry) → length (a .entries) ≡ 32 → Sound a → isAt a (placeOf (e .clk) (used a)) (e .clk) ≡ true
     → replaced a (placeOf (e .clk) (used a)) e ≡ withUsed a (insert e (used a))
 replaced-is a e l s q =
