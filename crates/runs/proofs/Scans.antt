@@ -24,7 +24,7 @@ use Rattle.runs.specs.Calls.{mostRuns, used, soundList}
 use Rattle.runs.specs.Inside.{placeOf, noEntry, isAt, opened, openedAt}
 use Rattle.runs.proofs.Orders.{order-cons, order-nil, total-nil, total-cons, total-append}
 use Rattle.runs.proofs.Places.{place-nil, place-later, place-here}
-use Rattle.runs.proofs.Opened.{moved, moved-more, moved-next}
+use Rattle.runs.proofs.Opened.{opened-at, moved, moved-none, moved-more, moved-next}
 
 -- what is left of the entries in use
 abbrev pub left : Ace → ℕ → List Entry
@@ -151,6 +151,17 @@ pub record Moved (a : Ace) (at : ℕ) (e : Entry) (b : Ace) (carried : Entry) (i
   pub same : b .len ≡ a .len
   pub entries-are : b .entries ≡ moved (a .entries) at e i
   pub carried-is : carried ≡ getD (opened (a .entries) at e) i noEntry
+
+pub moved-start : (a : Ace) (at : ℕ) (e : Entry) → length (a .entries) ≡ 32 → at ≤ a .len → a .len < mostRuns → Moved a at e a e at
+moved-start a at e l h f =
+    let k : at ≤ length (a .entries) = omega arith in
+    record {
+      from = omega arith;
+      within = omega arith;
+      same = refl;
+      entries-are = sym (moved-none (a .entries) at e k);
+      carried-is = sym (opened-at (a .entries) at e k);
+    }
 
 pub moved-on : (a : Ace) (at : ℕ) (e : Entry) (b : Ace) (carried : Entry) (i : ℕ) → Moved a at e b carried i → length (a .entries) ≡ 32 → a .len < mostRuns → i ≤ a .len
     → Moved a at e (listOf (set (b .entries) i carried) (b .len)) (getD (b .entries) i noEntry) (i + 1)
