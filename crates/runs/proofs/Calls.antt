@@ -57,6 +57,17 @@ place-few a clock l s = let z = used-length a l (s .few) in let w = place-within
 pub at-few : (a : Ace) (at clock : ℕ) → isAt a at clock ≡ true → at < a .len
 at-few a at clock q = ltb-true at (a .len) (both (ltb at (a .len)) _ q .0)
 
+-- the same of a place that was found
+pub place-most : (a : Ace) (clock at : ℕ) → at ≡ placeOf clock (used a) → length (a .entries) ≡ 32 → Sound a → at ≤ mostRuns
+place-most a clock at p l s = let h = s .few in let w = place-few a clock l s in omega arith
+
+pub at-most : (a : Ace) (at clock : ℕ) (b : Bool) → b ≡ isAt a at clock → b ≡ true → Sound a → at < mostRuns
+at-most a at clock b i y s = let h = s .few in let k = at-few a at clock (sym i ∙ y) in omega arith
+
+pub place-room : (a : Ace) (clock at : ℕ) → at ≡ placeOf clock (used a) → length (a .entries) ≡ 32 → Sound a → (a .len ≡ mostRuns → ⊥)
+    → (at ≤ a .len) × (a .len < mostRuns)
+place-room a clock at p l s n = let h = s .few in let w = place-few a clock l s in (omega arith, omega arith)
+
 pub total-before : (a : Ace) (clock : ℕ) → length (a .entries) ≡ 32 → Sound a
     → total (take (placeOf clock (used a)) (a .entries)) ≡ rowsBefore clock (used a)
 total-before a clock l s =
@@ -82,6 +93,6 @@ opened-is a e l s q =
     let n : length (opened (used a) at e) ≡ a .len + 1 = opened-length (used a) at e (place-within (e .clk) (used a)) ∙ ap suc z ∙ sym (add-one (a .len)) in
     let h : a .len ≤ length (a .entries) = let i = s .few in omega arith in
     ap (λ (es : List Entry). listOf (es ++ drop (a .len + 1) (a .entries)) (a .len + 1))
-      (ap (λ (k : ℕ). take k (opened (a .entries) at e)) (add-one (a .len)) ∙ opened-used (a .entries) at (a .len) e p h)
+    (ap (λ (k : ℕ). take k (opened (a .entries) at e)) (add-one (a .len)) ∙ opened-used (a .entries) at (a .len) e p h)
     ∙ ap (λ (k : ℕ). listOf (opened (used a) at e ++ drop k (a .entries)) k) (sym n)
     ∙ ap (withUsed a) (sym (insert-new e (used a) (sym (at-found a at (e .clk) l (s .few)) ∙ q)))

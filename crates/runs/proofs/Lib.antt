@@ -4,3 +4,4 @@ pub mod Places
 pub mod Opened
 pub mod Scans
 pub mod Calls
+pub mod Ways

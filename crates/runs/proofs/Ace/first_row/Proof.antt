@@ -1,40 +1,43 @@
+-- `runs::Ace::first_row` meets its contract.
+-- Assumes nothing.
+use mathlib.Core.Path.{_≡_, sym, _∙_}
+use mathlib.Core.Bool.{true}
+use lib.ListN.{length}
+use borrow.Author.Tests.{not-true, not-false}
 use borrow.Author.Needs.{needs}
-use Rattle.runs.proofs.Ace.first_row.Statement.{statement}
+use Rattle.runs.specs.Calls.{soundList}
+use Rattle.runs.proofs.Held.{held}
+use Rattle.runs.proofs.Calls.{sound-of, place-most}
+use Rattle.runs.proofs.Ways.{row-refused, row-missing, row-given}
 use Rattle.runs.proofs.Ace.first_row.Tie as tie
-use Rattle.runs.proofs.Ace.first_row.Reads as reads
-use Rattle.runs.proofs.Ace.first_row.Lts as lts
-use Rattle.runs.proofs.Ace.is_at.Reads as is-at-reads
-use Rattle.runs.proofs.Ace.is_sound.Reads as is-sound-reads
-use Rattle.runs.proofs.Ace.place_of.Reads as place-of-reads
-use Rattle.runs.proofs.Ace.total_of.Reads as total-of-reads
+use Rattle.runs.proofs.Ace.first_row.Statement.{statement}
 
--- src/lib.rt:62:13
+long : (s : tie.Start) → length (s .args .self .entries) ≡ 32
+long s = held (s .args .self) _ (s .good .0)
+
+listed : (c : tie.After-place-of) → soundList (c .before .before .before .args .self) ≡ true
+listed c = sym (c .before .before .is-sound .ensures) ∙ not-false _ (c .before .if1 .left)
+
 is-sound-requires : tie.Need-is-sound-requires
 is-sound-requires c κs = search needs
 
--- src/lib.rt:63:13
 returns : tie.Need-returns
-returns c = ?
+returns c = row-refused _ _ (sym (c .before .is-sound .ensures) ∙ not-true _ (c .if1 .taken))
 
--- src/lib.rt:65:13
 place-of-requires : tie.Need-place-of-requires
-place-of-requires c κs = ?
+place-of-requires c κs = sound-of _ (sym (c .before .is-sound .ensures) ∙ not-false _ (c .if1 .left)) .few
 
--- src/lib.rt:66:13
 is-at-requires : tie.Need-is-at-requires
-is-at-requires c κs = ?
+is-at-requires c κs = sound-of _ (listed c) .few
 
--- src/lib.rt:67:13
 returns-2 : tie.Need-returns-2
-returns-2 c = ?
+returns-2 c = row-missing _ _ _ _ (c .before .is-at .ensures) (c .before .before .place-of .ensures) (long (c .before .before .before .before .before)) (listed (c .before .before)) (not-true _ (c .if2 .taken))
 
--- src/lib.rt:69:26
 total-of-requires : tie.Need-total-of-requires
-total-of-requires c κs = ?
+total-of-requires c κs = place-most _ _ _ (c .before .before .place-of .ensures) (long (c .before .before .before .before .before)) (sound-of _ (listed (c .before .before)))
 
--- src/lib.rt:59:5
 returns-3 : tie.Need-returns-3
-returns-3 c = ?
+returns-3 c = row-given _ _ _ _ _ (c .before .before .is-at .ensures) (c .before .before .before .place-of .ensures) (c .total-of .ensures) (long (c .before .before .before .before .before .before)) (listed (c .before .before .before)) (not-false _ (c .before .if2 .left))
 
 pub first-row-spec : {M : Type 1} → statement M
 first-row-spec =

@@ -1,30 +1,32 @@
+-- `runs::Ace::trace_len` meets its contract.
+-- Assumes nothing.
+use mathlib.Core.Path.{_≡_, sym, _∙_}
+use mathlib.Core.Bool.{true}
+use borrow.Author.Tests.{not-true, not-false}
 use borrow.Author.Needs.{needs}
-use Rattle.runs.proofs.Ace.trace_len.Statement.{statement}
+use Rattle.runs.specs.Calls.{soundList}
+use Rattle.runs.proofs.Calls.{sound-of}
+use Rattle.runs.proofs.Ways.{total-refused, total-given}
 use Rattle.runs.proofs.Ace.trace_len.Tie as tie
-use Rattle.runs.proofs.Ace.trace_len.Reads as reads
-use Rattle.runs.proofs.Ace.trace_len.Lts as lts
-use Rattle.runs.proofs.Ace.is_sound.Reads as is-sound-reads
-use Rattle.runs.proofs.Ace.total_of.Reads as total-of-reads
+use Rattle.runs.proofs.Ace.trace_len.Statement.{statement}
 
--- src/lib.rt:52:13
+listed : (c : tie.After-struct-known) → soundList (c .before .before .before .args .self) ≡ true
+listed c = sym (c .before .before .is-sound .ensures) ∙ not-false _ (c .before .if1 .left)
+
 is-sound-requires : tie.Need-is-sound-requires
 is-sound-requires c κs = search needs
 
--- src/lib.rt:53:13
 returns : tie.Need-returns
-returns c = ?
+returns c = total-refused _ (sym (c .before .is-sound .ensures) ∙ not-true _ (c .if1 .taken))
 
--- src/lib.rt:55:40
 cast-total-of : tie.Need-cast-total-of
 cast-total-of c = search needs
 
--- src/lib.rt:55:26
 total-of-requires : tie.Need-total-of-requires
-total-of-requires c κs = ?
+total-of-requires c κs = sound-of _ (listed c) .few
 
--- src/lib.rt:49:5
 returns-2 : tie.Need-returns-2
-returns-2 c = ?
+returns-2 c = total-given _ _ (listed (c .before)) (c .total-of .ensures)
 
 pub trace-len-spec : {M : Type 1} → statement M
 trace-len-spec =
