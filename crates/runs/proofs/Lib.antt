@@ -5,3 +5,6 @@ pub mod Opened
 pub mod Scans
 pub mod Calls
 pub mod Ways
+pub mod Among
+pub mod Rising
+pub mod Inserted
