@@ -8,3 +8,5 @@ pub mod Ways
 pub mod Among
 pub mod Rising
 pub mod Inserted
+pub mod Added
+pub mod Made
