@@ -9,4 +9,9 @@ pub mod Among
 pub mod Rising
 pub mod Inserted
 pub mod Added
+pub mod Refused
+pub mod Totals
+pub mod FirstRows
+pub mod Looked
+pub mod Answers
 pub mod Made

@@ -31,7 +31,7 @@ clock-from (y ∷ ys) least x q h =
 pub clock-after : (y : Entry) (ys : List Entry) (least : ℕ) (x : Entry) → inOrder least (y ∷ ys) ≡ true → Among x ys → y .clk < x .clk
 clock-after y ys least x q m = clock-from ys (suc (y .clk)) x (first-of least y ys q .rest) m
 
-clocks-from : (es : List Entry) (least i : ℕ) → inOrder least es ≡ true → i < length es → least ≤ getD es i noEntry .clk
+pub clocks-from : (es : List Entry) (least i : ℕ) → inOrder least es ≡ true → i < length es → least ≤ getD es i noEntry .clk
 clocks-from [] least i q h = absurd (omega arith)
 clocks-from (y ∷ ys) least zero q h = first-of least y ys q .rises
 clocks-from (y ∷ ys) least (suc i) q h =

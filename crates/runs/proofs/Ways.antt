@@ -61,16 +61,21 @@ module _ (a : Ace) where
     has-is : (at : ℕ) (b : Bool) → b ≡ isAt a at clock → at ≡ placeOf clock (used a) → length (a .entries) ≡ 32 → soundList a ≡ true → hasClock clock (used a) ≡ b
     has-is at b e p l q = sym (e ∙ ap (λ (k : ℕ). isAt a k clock) p ∙ at-has a clock l (sound-of a q))
 
+    pub row-unknown : soundList a ≡ true → hasClock clock (used a) ≡ false → refused 26 0 ≡ firstRowAnswer a clock
+    row-unknown q h = sym (row-asked q ∙ other (hasClock clock (used a)) (accepted (rowsBefore clock (used a) ∷ [])) (refused 26 0) h)
+
+    pub row-known : soundList a ≡ true → hasClock clock (used a) ≡ true → accepted (rowsBefore clock (used a) ∷ []) ≡ firstRowAnswer a clock
+    row-known q h = sym (row-asked q ∙ chosen (hasClock clock (used a)) (accepted (rowsBefore clock (used a) ∷ [])) (refused 26 0) h)
+
     pub row-missing : (at : ℕ) (b : Bool) → b ≡ isAt a at clock → at ≡ placeOf clock (used a) → length (a .entries) ≡ 32 → soundList a ≡ true → b ≡ false
         → refused 26 0 ≡ firstRowAnswer a clock
-    row-missing at b e p l q n =
-        sym (row-asked q ∙ other (hasClock clock (used a)) (accepted (rowsBefore clock (used a) ∷ [])) (refused 26 0) (has-is at b e p l q ∙ n))
+    row-missing at b e p l q n = row-unknown q (has-is at b e p l q ∙ n)
 
     pub row-given : (at : ℕ) (b : Bool) (rows : ℕ) → b ≡ isAt a at clock → at ≡ placeOf clock (used a) → rows ≡ total (take at (a .entries)) → length (a .entries) ≡ 32
         → soundList a ≡ true → b ≡ true → accepted (rows ∷ []) ≡ firstRowAnswer a clock
     row-given at b rows e p t l q y =
         ap (λ (n : ℕ). accepted (n ∷ [])) (t ∙ ap (λ (k : ℕ). total (take k (a .entries))) p ∙ total-before a clock l (sound-of a q))
-        ∙ sym (row-asked q ∙ chosen (hasClock clock (used a)) (accepted (rowsBefore clock (used a) ∷ [])) (refused 26 0) (has-is at b e p l q ∙ y))
+        ∙ row-known q (has-is at b e p l q ∙ y)
 
   -- a run added
   module _ (e : Entry) where
