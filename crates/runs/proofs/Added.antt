@@ -1,18 +1,17 @@
 -- A run that is added: the list after it is sound, the run is in use in it, and all others are as they were.
 -- Assumes nothing.
 use mathlib.Core.Path.{_≡_, refl, sym, ap, subst, _∙_}
-use mathlib.Core.Bool.{Bool, true, false, cond, _||_, true≢false}
-use mathlib.Core.List.{List, [], _∷_, _++_}
+use mathlib.Core.Bool.{Bool, true, false, _||_, true≢false}
+use mathlib.Core.List.{List, [], _++_}
 use mathlib.Core.Logic.{_⊎_, ⊎-elim, inl, inr}
-use Prim.Native.Nat.{ℕ, suc, _+_, _-_, _≤_, _<_}
-use native.Mathlib.Nat.{add-sub-of-le}
+use Prim.Native.Nat.{ℕ, _+_, _-_, _≤_, _<_}
 use native.Mathlib.Omega.{arith}
 use lib.Dec.{ltb}
 use lib.ListN.{length, getD, drop, length-append, length-drop}
 use lib.Seq.{take-append-seam, getD-append-add, getD-drop}
-use borrow.Author.Tests.{ltb-true, ltb-false}
+use borrow.Author.Tests.{ltb-true}
 use Rattle.field.specs.Told.{Told, accepted, refused}
-use Rattle.trace.specs.Counts.{mostWires, ofCounts}
+use Rattle.trace.specs.Counts.{mostWires}
 use Rattle.trace.specs.State.{isAccepted}
 use Rattle.trace.proofs.Choices.{passes, either}
 use Rattle.trace.proofs.Tests.{counts-of, counts-pass}
@@ -22,8 +21,7 @@ use Rattle.runs.specs.Entries.{rowsOf, opens, inOrder, total, hasClock, 
 use Rattle.runs.specs.Calls.{mostRuns, used, soundList, addAnswer, withUsed, addedTo, listAfter}
 use Rattle.runs.specs.Inside.{noEntry}
 use Rattle.runs.proofs.Scans.{entryAt, sound-short}
-use Rattle.runs.proofs.Calls.{Sound, sound-of, used-length}
-use Rattle.runs.proofs.Ways.{add-full, list-stays}
+use Rattle.runs.proofs.Calls.{sound-of, used-length}
 use Rattle.runs.proofs.Among.{Among, InUse, in-use, is-among}
 use Rattle.runs.proofs.Rising.{one-entry}
 use Rattle.runs.proofs.Inserted.{length-same, length-more, insert-order, insert-in, insert-keeps, insert-back, insert-total-new, insert-total-same}

@@ -1,23 +1,20 @@
 -- The calls' ways: what the private functions give is what the definitions say.
 -- Assumes nothing.
-use mathlib.Core.Path.{_≡_, refl, sym, ap, ap₂, _∙_}
-use mathlib.Core.Bool.{Bool, true, false, cond, _&&_, _||_}
-use mathlib.Core.List.{List, [], _∷_, _++_}
-use mathlib.Core.Logic.{⊎-elim}
+use mathlib.Core.Path.{_≡_, refl, sym, ap, _∙_}
+use mathlib.Core.Bool.{Bool, true, false}
+use mathlib.Core.List.{List, _++_}
 use Prim.Native.Nat.{ℕ, suc, _+_, _≤_, _<_}
 use native.Mathlib.Numerals.{add-one}
 use native.Mathlib.Omega.{arith}
-use lib.Dec.{ltb, leb, eqb}
+use lib.Dec.{ltb, eqb}
 use lib.ListN.{length, getD, set, take, drop, length-set}
 use lib.Seq.{length-take-le, getD-take, take-take}
-use borrow.Author.Tests.{ltb-true, leb-true, lt-ltb, le-ltb, le-leb}
-use Rattle.field.specs.Told.{Told, accepted, refused}
-use Rattle.trace.specs.Counts.{mostWires, ofCounts}
+use borrow.Author.Tests.{ltb-true, leb-true}
 use Rattle.trace.proofs.Choices.{both, first-holds, first-fails}
 use Rattle.runs.specs.declared.Entry.{Entry}
 use Rattle.runs.specs.declared.Ace.{Ace}
 use Rattle.runs.specs.Entries.{inOrder, total, rowsBefore, hasClock, insert}
-use Rattle.runs.specs.Calls.{mostRuns, used, soundList, totalAnswer, firstRowAnswer, addAnswer, withUsed, listAfter}
+use Rattle.runs.specs.Calls.{mostRuns, used, soundList, withUsed}
 use Rattle.runs.specs.Inside.{placeOf, noEntry, isAt, replaced, opened, openedAt}
 use Rattle.runs.proofs.Scans.{listOf}
 use Rattle.runs.proofs.Places.{found, found-has, before-place, insert-found, insert-new, place-within}

@@ -3,13 +3,13 @@
 use mathlib.Core.Path.{_≡_, refl, sym, ap, subst, _∙_}
 use mathlib.Core.Bool.{true, false, true≢false}
 use mathlib.Core.List.{List, [], _∷_}
-use mathlib.Core.Logic.{_⊎_, ⊎-elim, inl, inr}
+use mathlib.Core.Logic.{⊎-elim, inl, inr}
 use Prim.Native.Nat.{ℕ, suc, _+_, _≤_, _<_}
 use native.Mathlib.Omega.{arith}
 use lib.ListN.{length}
 use Rattle.runs.specs.declared.Entry.{Entry}
 use Rattle.runs.specs.Entries.{rowsOf, opens, inOrder, total, hasClock, insert}
-use Rattle.runs.proofs.Orders.{compare, First, first-of, first-is, order-nil, total-nil, total-cons, has-nil, has-here, has-later, has-none, insert-nil, insert-later, insert-same, insert-here}
+use Rattle.runs.proofs.Orders.{compare, first-of, first-is, order-nil, total-nil, total-cons, has-nil, has-here, has-later, has-none, insert-nil, insert-later, insert-same, insert-here}
 use Rattle.runs.proofs.Among.{Among}
 use Rattle.runs.proofs.Rising.{clock-after}
 

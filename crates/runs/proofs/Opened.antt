@@ -2,10 +2,10 @@
 -- Assumes nothing.
 use mathlib.Core.Path.{_≡_, refl, sym, ap, _∙_}
 use mathlib.Core.List.{List, [], _∷_, _++_}
-use Prim.Native.Nat.{ℕ, zero, suc, _+_, _≤_, _<_}
+use Prim.Native.Nat.{ℕ, zero, suc, _≤_, _<_}
 use native.Mathlib.Omega.{arith}
-use lib.ListN.{length, getD, set, take, drop, length-append, length-drop, take-append-drop}
-use lib.Seq.{length-take-le, take-nil, drop-nil, drop-cons, take-suc, take-at, getD-at, set-at, append-snoc, take-set-lt, drop-set-lt}
+use lib.ListN.{length, getD, set, take, drop, take-append-drop}
+use lib.Seq.{length-take-le, drop-cons, take-suc, take-at, getD-at, set-at, append-snoc, take-set-lt, drop-set-lt}
 use Rattle.runs.specs.declared.Entry.{Entry}
 use Rattle.runs.specs.Inside.{noEntry, opened}
 

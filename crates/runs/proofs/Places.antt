@@ -2,18 +2,18 @@
 -- Assumes nothing.
 use mathlib.Core.Path.{_≡_, refl, sym, ap, _∙_}
 use mathlib.Core.Bool.{Bool, true, false, _&&_, true≢false}
-use mathlib.Core.List.{List, [], _∷_, _++_}
+use mathlib.Core.List.{List, [], _∷_}
 use mathlib.Core.Logic.{⊎-elim}
-use Prim.Native.Nat.{ℕ, zero, suc, _≤_, _<_}
+use Prim.Native.Nat.{ℕ, suc, _≤_, _<_}
 use native.Mathlib.Omega.{arith}
-use lib.Dec.{ltb, leb, eqb, leb·suc-suc}
-use lib.ListN.{length, getD, set, take, drop}
+use lib.Dec.{ltb, eqb, leb·suc-suc}
+use lib.ListN.{length, getD, set, take}
 use borrow.Author.Tests.{lt-ltb, le-ltb, eq-eqb, ne-eqb}
-use Rattle.trace.proofs.Choices.{first-fails, second-fails, first-holds, both}
+use Rattle.trace.proofs.Choices.{first-fails, second-fails, first-holds}
 use Rattle.runs.specs.declared.Entry.{Entry}
 use Rattle.runs.specs.Entries.{inOrder, total, rowsBefore, hasClock, insert}
 use Rattle.runs.specs.Inside.{placeOf, noEntry, opened}
-use Rattle.runs.proofs.Orders.{compare, First, first-of, total-nil, total-cons, before-nil, before-less, before-not, before-none, has-nil, has-here, has-later, has-none, insert-nil, insert-later, insert-same, insert-here}
+use Rattle.runs.proofs.Orders.{compare, first-of, total-nil, total-cons, before-nil, before-less, before-not, before-none, has-nil, has-here, has-later, has-none, insert-nil, insert-later, insert-same, insert-here}
 
 pub place-nil : (clock : ℕ) → placeOf clock [] ≡ 0
 unfolding placeOf

@@ -1,16 +1,16 @@
 -- Exactly when each call is refused, and with which number.
 -- Assumes nothing.
-use mathlib.Core.Path.{_≡_, refl, sym, ap, _∙_}
+use mathlib.Core.Path.{_≡_, refl, sym, ap}
 use mathlib.Core.Bool.{Bool, true, false, cond, not, _||_}
-use mathlib.Core.List.{List, [], _∷_}
-use mathlib.Core.Logic.{_⊎_, inl, inr}
-use Prim.Native.Nat.{ℕ, _≤_, _<_}
+use mathlib.Core.List.{[], _∷_}
+use mathlib.Core.Logic.{inl, inr}
+use Prim.Native.Nat.{ℕ, _<_}
 use native.Mathlib.Omega.{arith}
 use lib.Dec.{ltb, eqb}
 use borrow.Author.Tests.{lt-ltb, ltb-false}
-use Rattle.field.specs.Told.{Told, accepted, refused, orElse}
+use Rattle.field.specs.Told.{Told, accepted, refused}
 use Rattle.trace.specs.Counts.{mostWires, wires, ofCounts}
-use Rattle.trace.specs.State.{isAccepted, inTurn}
+use Rattle.trace.specs.State.{inTurn}
 use Rattle.trace.proofs.Tests.{told-accepted, counts-of, counts-pass}
 use Rattle.runs.specs.declared.Entry.{Entry}
 use Rattle.runs.specs.declared.Ace.{Ace}

@@ -13,7 +13,7 @@ use Rattle.runs.specs.declared.Ace.{Ace}
 use Rattle.runs.specs.Entries.{opens, inOrder}
 use Rattle.runs.specs.Calls.{mostRuns, used, soundList}
 use Rattle.runs.specs.Inside.{noEntry}
-use Rattle.runs.proofs.Orders.{First, first-of, first-is, order-nil}
+use Rattle.runs.proofs.Orders.{first-of, first-is, order-nil}
 use Rattle.runs.proofs.Calls.{sound-of, used-length}
 use Rattle.runs.proofs.Scans.{entryAt, sound-short}
 use Rattle.runs.proofs.Among.{Among, InUse, is-among}

@@ -1,16 +1,16 @@
 -- A turn of each loop over the entries.
 -- Assumes nothing.
 use mathlib.Core.Path.{_≡_, refl, sym, ap, ap₂, _∙_}
-use mathlib.Core.Bool.{Bool, true, false, _&&_}
+use mathlib.Core.Bool.{true, false, _&&_}
 use mathlib.Core.List.{List, [], _∷_, _++_}
-use Prim.Native.Nat.{ℕ, suc, _+_, _*_, _^_, _≤_, _<_}
+use Prim.Native.Nat.{ℕ, suc, _+_, _≤_, _<_}
 use native.Mathlib.Numerals.{add-one}
 use native.Mathlib.Omega.{arith}
-use lib.Dec.{ltb, leb, eqb}
+use lib.Dec.{leb}
 use lib.ListN.{length, getD, set, take, drop}
 use lib.Seq.{slice-cons, slice-empty, take-suc}
-use borrow.Author.Tests.{lt-leb, le-leb, lt-ltb, le-ltb}
-use Rattle.field.specs.Told.{Told, accepted, refused}
+use borrow.Author.Tests.{lt-leb, le-leb}
+use Rattle.field.specs.Told.{accepted}
 use Rattle.trace.specs.declared.Tested.{Tested}
 use Rattle.trace.specs.declared.Tested.the-variants.{Passed, Refused}
 use Rattle.trace.specs.Counts.{mostWires, ofCounts}
@@ -21,7 +21,7 @@ use Rattle.runs.specs.declared.Entry.{Entry}
 use Rattle.runs.specs.declared.Ace.{Ace}
 use Rattle.runs.specs.Entries.{rowsOf, opens, inOrder, total}
 use Rattle.runs.specs.Calls.{mostRuns, used, soundList}
-use Rattle.runs.specs.Inside.{placeOf, noEntry, isAt, opened, openedAt}
+use Rattle.runs.specs.Inside.{placeOf, noEntry, opened, openedAt}
 use Rattle.runs.proofs.Orders.{order-cons, order-nil, total-nil, total-cons, total-append}
 use Rattle.runs.proofs.Places.{place-nil, place-later, place-here}
 use Rattle.runs.proofs.Opened.{opened-at, moved, moved-none, moved-more, moved-next}

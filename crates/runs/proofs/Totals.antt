@@ -1,7 +1,7 @@
 -- The total and the first row of a clock, as sums over the entries in use.
 -- Assumes nothing.
-use mathlib.Core.Path.{_≡_, refl, sym, ap, _∙_}
-use mathlib.Core.Bool.{true, false, cond}
+use mathlib.Core.Path.{_≡_, ap, _∙_}
+use mathlib.Core.Bool.{true, cond}
 use mathlib.Core.List.{List, [], _∷_, _++_}
 use mathlib.Core.Logic.{⊎-elim}
 use Prim.Native.Nat.{ℕ, zero, suc, _+_, _≤_, _<_}
@@ -10,16 +10,14 @@ use lib.Dec.{ltb}
 use lib.ListN.{length, getD, take}
 use lib.Seq.{take-suc}
 use borrow.Author.Tests.{lt-ltb, le-ltb}
-use Rattle.field.specs.Told.{accepted, refused}
 use Rattle.runs.specs.declared.Entry.{Entry}
 use Rattle.runs.specs.declared.Ace.{Ace}
-use Rattle.runs.specs.Entries.{rowsOf, inOrder, total, rowsBefore, hasClock}
-use Rattle.runs.specs.Calls.{mostRuns, used, soundList, totalAnswer, firstRowAnswer}
-use Rattle.runs.specs.Inside.{placeOf, noEntry}
-use Rattle.runs.proofs.Orders.{compare, First, first-of, total-nil, total-cons, total-append, before-nil, before-less, before-not}
-use Rattle.runs.proofs.Places.{place-later, place-here}
+use Rattle.runs.specs.Entries.{rowsOf, total, rowsBefore}
+use Rattle.runs.specs.Calls.{used, soundList}
+use Rattle.runs.specs.Inside.{noEntry}
+use Rattle.runs.proofs.Orders.{compare, total-nil, total-cons, total-append, before-nil, before-less, before-not}
 use Rattle.runs.proofs.Scans.{entryAt}
-use Rattle.runs.proofs.Calls.{sound-of, used-length}
+use Rattle.runs.proofs.Calls.{sound-of}
 
 -- f 0 + f 1 + .. + f (n - 1)
 abbrev pub sum : (ℕ → ℕ) → ℕ → ℕ

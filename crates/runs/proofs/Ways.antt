@@ -2,23 +2,22 @@
 -- Assumes nothing.
 use mathlib.Core.Path.{_≡_, refl, sym, ap, ap₂, _∙_}
 use mathlib.Core.Bool.{Bool, true, false, cond, _||_}
-use mathlib.Core.List.{List, [], _∷_}
+use mathlib.Core.List.{[], _∷_}
 use mathlib.Core.Logic.{_⊎_, inl, inr}
-use Prim.Native.Nat.{ℕ, _≤_, _<_}
+use Prim.Native.Nat.{ℕ, _≤_}
 use native.Mathlib.Omega.{arith}
 use lib.Dec.{ltb, eqb}
 use lib.ListN.{length, take}
 use borrow.Author.Tests.{lt-ltb, le-ltb}
 use Rattle.field.specs.Told.{Told, accepted, refused, orElse}
 use Rattle.trace.specs.Counts.{mostWires, wires, ofCounts}
-use Rattle.trace.specs.State.{inTurn}
 use Rattle.trace.proofs.Choices.{either-holds, stopped-else}
 use Rattle.runs.specs.declared.Entry.{Entry}
 use Rattle.runs.specs.declared.Ace.{Ace}
 use Rattle.runs.specs.Entries.{total, rowsBefore, hasClock, insert}
 use Rattle.runs.specs.Calls.{mostRuns, used, soundList, totalAnswer, firstRowAnswer, addAnswer, withUsed, addedTo, listAfter}
 use Rattle.runs.specs.Inside.{placeOf, isAt, replaced, openedAt}
-use Rattle.runs.proofs.Calls.{Sound, sound-of, at-has, total-before, replaced-is, opened-is}
+use Rattle.runs.proofs.Calls.{sound-of, at-has, total-before, replaced-is, opened-is}
 
 -- a choice that is known
 chosen : (b : Bool) (t u : Told) → b ≡ true → cond b t u ≡ t
