@@ -22,10 +22,10 @@ cast-len : tie.Need-cast-len Inv-loop μ-loop
 cast-len c = search needs
 
 returns : tie.Need-returns Inv-loop μ-loop
-returns c = sound-long _ (c .if1 .taken)
+returns c = sound-long _ (search needs)
 
 loop-holds : tie.Need-loop-holds Inv-loop μ-loop
-loop-holds c = ordered-start _ (c .if1 .left)
+loop-holds c = ordered-start _ (search needs)
 
 mul-entry : tie.Need-mul-entry Inv-loop μ-loop
 mul-entry c = search needs
@@ -37,7 +37,7 @@ cast-if2 : tie.Need-cast-if2 Inv-loop μ-loop
 cast-if2 c = search needs
 
 returns-2 : tie.Need-returns-2 Inv-loop μ-loop
-returns-2 c = clock-low _ _ _ (c .before .before .before .before .loop .inv) (long (c .before .before .before .before .before .before)) (c .before .before .before .loop-test .taken) (c .if2 .taken)
+returns-2 c = clock-low _ _ _ (c .before .before .before .before .loop .inv) (long (c .before .before .before .before .before .before)) (search needs) (search needs)
 
 test-counts-requires : tie.Need-test-counts-requires Inv-loop μ-loop
 test-counts-requires c κs = search needs
@@ -49,7 +49,7 @@ enum-told-2 : tie.Need-enum-told-2 Inv-loop μ-loop
 enum-told-2 c = search needs
 
 returns-3 : tie.Need-returns-3 Inv-loop μ-loop
-returns-3 c = counts-bad _ _ _ _ _ _ (c .before .before .before .before .before .before .before .loop .inv) (long (c .before .before .before .before .before .before .before .before .before)) (c .before .before .before .before .before .before .loop-test .taken) (c .before .before .test-counts .ensures) (c .enum-told2 .given .1)
+returns-3 c = counts-bad _ _ _ _ _ _ (c .before .before .before .before .before .before .before .loop .inv) (long (c .before .before .before .before .before .before .before .before .before)) (search needs) (c .before .before .test-counts .ensures) (c .enum-told2 .given .1)
 
 cast-least : tie.Need-cast-least Inv-loop μ-loop
 cast-least c = search needs
@@ -64,10 +64,10 @@ loop-less : tie.Need-loop-less Inv-loop μ-loop
 loop-less c = search needs
 
 loop-again : tie.Need-loop-again Inv-loop μ-loop
-loop-again c = ordered-on _ _ _ _ (c .before .before .before .before .before .before .before .before .loop .inv) (long (c .before .before .before .before .before .before .before .before .before .before)) (c .before .before .before .before .before .before .before .loop-test .taken) (c .before .before .before .before .if2 .left) (c .before .before .before .test-counts .ensures) (c .before .enum-told .given .1)
+loop-again c = ordered-on _ _ _ _ (c .before .before .before .before .before .before .before .before .loop .inv) (long (c .before .before .before .before .before .before .before .before .before .before)) (search needs) (search needs) (c .before .before .before .test-counts .ensures) (c .before .enum-told .given .1)
 
 returns-4 : tie.Need-returns-4 Inv-loop μ-loop
-returns-4 c = ordered-end _ _ _ (c .before .loop .inv) (c .loop-test .left)
+returns-4 c = ordered-end _ _ _ (c .before .loop .inv) (search needs)
 
 pub is-sound-spec : {M : Type 1} → statement M
 is-sound-spec =

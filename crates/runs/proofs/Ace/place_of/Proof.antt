@@ -31,7 +31,7 @@ element-copy-out-entry : tie.Need-element-copy-out-entry Inv-loop μ-loop
 element-copy-out-entry c = search needs
 
 returns : tie.Need-returns Inv-loop μ-loop
-returns c = search-ends _ _ _ (c .before .before .before .before .loop .inv) (long (c .before .before .before .before .before)) (c .before .before .before .before .before .pre) (c .before .before .before .loop-test .taken) (c .if1 .taken)
+returns c = search-ends _ _ _ (c .before .before .before .before .loop .inv) (long (c .before .before .before .before .before)) (c .before .before .before .before .before .pre) (c .before .before .before .loop-test .taken) (search needs)
 
 add-at : tie.Need-add-at Inv-loop μ-loop
 add-at c = search needs
@@ -40,7 +40,7 @@ loop-less : tie.Need-loop-less Inv-loop μ-loop
 loop-less c = search needs
 
 loop-again : tie.Need-loop-again Inv-loop μ-loop
-loop-again c = search-on _ _ _ (c .before .before .before .before .loop .inv) (long (c .before .before .before .before .before)) (c .before .before .before .before .before .pre) (c .before .before .before .loop-test .taken) (c .if1 .left)
+loop-again c = search-on _ _ _ (c .before .before .before .before .loop .inv) (long (c .before .before .before .before .before)) (c .before .before .before .before .before .pre) (c .before .before .before .loop-test .taken) (search needs)
 
 returns-2 : tie.Need-returns-2 Inv-loop μ-loop
 returns-2 c = search-all _ _ _ (c .before .loop .inv) (c .loop-test .left)
