@@ -27,7 +27,7 @@ InUse x a = (i : ℕ) × (i < a .len) × (getD (a .entries) i noEntry ≡ x)
 abbrev Placed : Entry → List Entry → Type 0
 Placed x es = (i : ℕ) × (i < length es) × (getD es i noEntry ≡ x)
 
-pub among-at : (es : List Entry) (x : Entry) (i : ℕ) → i < length es → getD es i noEntry ≡ x → Among x es
+among-at : (es : List Entry) (x : Entry) (i : ℕ) → i < length es → getD es i noEntry ≡ x → Among x es
 among-at [] x i h e = absurd (omega arith)
 among-at (y ∷ ys) x zero h e = inl (sym e)
 among-at (y ∷ ys) x (suc i) h e = inr (among-at ys x i (omega arith) e)

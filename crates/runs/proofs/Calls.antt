@@ -42,16 +42,16 @@ by-place false a at clock q l =
     first-fails (ltb at (a .len)) (eqb (getD (a .entries) at noEntry .clk) clock) q
     ∙ sym (first-fails (ltb at (length (used a))) (eqb (getD (used a) at noEntry .clk) clock) (ap (λ (n : ℕ). ltb at n) l ∙ q))
 
-pub at-found : (a : Ace) (at clock : ℕ) → length (a .entries) ≡ 32 → a .len ≤ mostRuns → isAt a at clock ≡ found (used a) at clock
+at-found : (a : Ace) (at clock : ℕ) → length (a .entries) ≡ 32 → a .len ≤ mostRuns → isAt a at clock ≡ found (used a) at clock
 at-found a at clock l h = by-place (ltb at (a .len)) a at clock refl (used-length a l h)
 
 pub at-has : (a : Ace) (clock : ℕ) → length (a .entries) ≡ 32 → Sound a → isAt a (placeOf clock (used a)) clock ≡ hasClock clock (used a)
 at-has a clock l s = at-found a (placeOf clock (used a)) clock l (s .few) ∙ sym (found-has (used a) 0 clock (s .order))
 
-pub place-few : (a : Ace) (clock : ℕ) → length (a .entries) ≡ 32 → Sound a → placeOf clock (used a) ≤ a .len
+place-few : (a : Ace) (clock : ℕ) → length (a .entries) ≡ 32 → Sound a → placeOf clock (used a) ≤ a .len
 place-few a clock l s = let z = used-length a l (s .few) in let w = place-within clock (used a) in omega arith
 
-pub at-few : (a : Ace) (at clock : ℕ) → isAt a at clock ≡ true → at < a .len
+at-few : (a : Ace) (at clock : ℕ) → isAt a at clock ≡ true → at < a .len
 at-few a at clock q = ltb-true at (a .len) (both (ltb at (a .len)) _ q .0)
 
 -- the same of a place that was found

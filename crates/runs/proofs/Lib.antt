@@ -12,6 +12,7 @@ pub mod Added
 pub mod Refused
 pub mod Totals
 pub mod FirstRows
+pub mod Found
 pub mod Looked
 pub mod Answers
 pub mod Made

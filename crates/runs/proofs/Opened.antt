@@ -18,7 +18,7 @@ opened-length (x ∷ xs) (suc at) e h = ap suc (opened-length xs at e (omega ari
 pub opened-at : (es : List Entry) (at : ℕ) (e : Entry) → at ≤ length es → getD (opened es at e) at noEntry ≡ e
 opened-at es at e h = getD-at (take at es) e (drop at es) noEntry at (length-take-le at es h)
 
-pub opened-after : (es : List Entry) (at i : ℕ) (e : Entry) → at ≤ length es → at ≤ i → getD (opened es at e) (suc i) noEntry ≡ getD es i noEntry
+opened-after : (es : List Entry) (at i : ℕ) (e : Entry) → at ≤ length es → at ≤ i → getD (opened es at e) (suc i) noEntry ≡ getD es i noEntry
 opened-after es zero i e h k = refl
 opened-after [] (suc at) i e h k = absurd (omega arith)
 opened-after (x ∷ xs) (suc at) zero e h k = absurd (omega arith)

@@ -45,13 +45,6 @@ first-of least e es q =
 pub first-is : (least : ℕ) (e : Entry) (es : List Entry) → First least e es → inOrder least (e ∷ es) ≡ true
 first-is least e es h = order-cons least e es ∙ both-hold _ _ (le-leb _ _ (h .rises)) (both-hold _ _ (h .counts) (h .rest))
 
-pub order-weaker : (es : List Entry) (least below : ℕ) → below ≤ least → inOrder least es ≡ true → inOrder below es ≡ true
-order-weaker [] least below h q = order-nil below
-order-weaker (e ∷ es) least below h q =
-    let f = first-of least e es q in
-    let i = f .rises in
-    first-is below e es (record { rises = omega arith; counts = f .counts; rest = f .rest })
-
 -- the total
 pub total-nil : total [] ≡ 0
 unfolding total

@@ -33,10 +33,10 @@ left a i = drop i (used a)
 abbrev pub entryAt : Ace → ℕ → Entry
 entryAt a i = getD (a .entries) i noEntry
 
-pub left-cons : (a : Ace) (i : ℕ) → length (a .entries) ≡ 32 → a .len ≤ mostRuns → i < a .len → left a i ≡ entryAt a i ∷ left a (suc i)
+left-cons : (a : Ace) (i : ℕ) → length (a .entries) ≡ 32 → a .len ≤ mostRuns → i < a .len → left a i ≡ entryAt a i ∷ left a (suc i)
 left-cons a i l h k = slice-cons i (a .len) (a .entries) noEntry k (omega arith)
 
-pub left-none : (a : Ace) (i : ℕ) → i ≤ a .len → a .len ≤ i → left a i ≡ []
+left-none : (a : Ace) (i : ℕ) → i ≤ a .len → a .len ≤ i → left a i ≡ []
 left-none a i h k = let z : i ≡ a .len = omega arith in ap (λ (n : ℕ). drop n (used a)) z ∙ slice-empty (a .len) (a .entries)
 
 -- whether a list is sound

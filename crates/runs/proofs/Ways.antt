@@ -112,7 +112,7 @@ module _ (a : Ace) where
     pub list-stays : (number place : ℕ) → refused number place ≡ addAnswer a e → a ≡ listAfter a e
     list-stays n k q = ap (λ (t : Told). addedTo t a e) q
 
-    pub list-grows : accepted [] ≡ addAnswer a e → withUsed a (insert e (used a)) ≡ listAfter a e
+    list-grows : accepted [] ≡ addAnswer a e → withUsed a (insert e (used a)) ≡ listAfter a e
     list-grows q = ap (λ (t : Told). addedTo t a e) q
 
     module _ (at : ℕ) (b : Bool) (i : b ≡ isAt a at (e .clk)) (p : at ≡ placeOf (e .clk) (used a)) (l : length (a .entries) ≡ 32) (q : soundList a ≡ true) (r : accepted [] ≡ counted) where

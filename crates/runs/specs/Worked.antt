@@ -29,6 +29,11 @@ pub of-empty : (clock : ℕ) → _≡_ {A = List Told} (totalAnswer empty ∷ fi
 unfolding totalAnswer firstRowAnswer soundList inOrder total hasClock
 of-empty clock = refl
 
+-- both sides of 32768 wires
+pub counts-edge : addAnswer empty (run 1 16383 2) ∷ addAnswer empty (run 1 16383 3) ∷ [] ≡ accepted [] ∷ refused 1 0 ∷ []
+unfolding addAnswer soundList inOrder ofCounts
+counts-edge = refl
+
 -- three runs, added out of order
 abbrev pub three : Ace
 three = list (run 3 2 8 ∷ run 5 3 4 ∷ run 7 1 4 ∷ unread 29) 3
@@ -64,6 +69,12 @@ pub adding-to-full :
 unfolding addAnswer soundList inOrder hasClock ofCounts
 adding-to-full = refl
 
+pub rows-of-full :
+    totalAnswer full ∷ firstRowAnswer full 10 ∷ firstRowAnswer full 320 ∷ totalAnswer (listAfter full (run 320 2 3)) ∷ firstRowAnswer (listAfter full (run 10 2 3)) 320 ∷ []
+    ≡ accepted (64 ∷ []) ∷ accepted (0 ∷ []) ∷ accepted (62 ∷ []) ∷ accepted (67 ∷ []) ∷ accepted (65 ∷ []) ∷ []
+unfolding totalAnswer firstRowAnswer addAnswer soundList inOrder total rowsBefore hasClock insert ofCounts
+rows-of-full = refl
+
 pub replaced-in-full : listAfter full (run 320 2 3) ≡ list (tens 31 10 ++ (run 320 2 3 ∷ [])) 32
 unfolding addAnswer soundList inOrder hasClock insert ofCounts
 replaced-in-full = refl
@@ -92,10 +103,10 @@ pub thirteen :
 unfolding totalAnswer firstRowAnswer addAnswer soundList inOrder ofCounts
 thirteen = refl
 
--- each of them but the last is sound where it is cut before the entry that is wrong
-pub cut-before : totalAnswer (list (run 4 1 1 ∷ run 4 1 1 ∷ unread 30) 1) ∷ totalAnswer (list (run 4 1 1 ∷ unread 31) 1) ∷ [] ≡ accepted (2 ∷ []) ∷ accepted (2 ∷ []) ∷ []
+-- each of them is sound at a length of 1
+pub cut-short : map (λ (a : Ace). totalAnswer (list (a .entries) 1)) unsound ≡ replicate 4 (accepted (2 ∷ []))
 unfolding totalAnswer soundList inOrder total ofCounts
-cut-before = refl
+cut-short = refl
 
 -- the largest clock, and clock 0
 pub largest-clock : addedAll (run 4294967295 1 1 ∷ run 0 1 1 ∷ []) empty ≡ list (run 0 1 1 ∷ run 4294967295 1 1 ∷ unread 30) 2
