@@ -3,3 +3,4 @@ pub mod Places
 pub mod Pieces
 pub mod Turns
 pub mod Put
+pub mod Worked

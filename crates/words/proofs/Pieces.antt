@@ -147,8 +147,8 @@ module _ (text : List ℕ) (from : ℕ) where
   first-word h =
       let some : 0 < length (drop start text) = omega (arith, length-drop start text) in
       let e : parting (getD (drop start text) 0 0) ≡ false =
-          ap parting (getD-drop start text 0 0 ∙ ap (λ (n : ℕ). getD text n 0) (add-zero start) ∙ sym (getD-drop from text (gap (drop from text)) 0))
-          ∙ stops (drop from text) (omega (arith, length-drop from text)) in
+      ap parting (getD-drop start text 0 0 ∙ ap (λ (n : ℕ). getD text n 0) (add-zero start) ∙ sym (getD-drop from text (gap (drop from text)) 0))
+      ∙ stops (drop from text) (omega (arith, length-drop from text)) in
       let f = at-head (drop start text) some e in
       record {
         words = started ∙ f .0 ∙ ap (λ (l : List ℕ). take (lead (drop start text)) (drop start text) ∷ wordsOf l) (drop-drop (lead (drop start text)) start text);

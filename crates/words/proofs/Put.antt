@@ -3,15 +3,22 @@
 use Prim.Native.Nat.{ℕ, suc, _+_, _≤_}
 use mathlib.Core.Path.{_≡_, refl, sym, ap, ap₂, _∙_}
 use mathlib.Core.List.{List, [], _∷_}
+use mathlib.Core.Logic.{⊎-elim}
 use native.Mathlib.Omega.{arith}
 use lib.ListN.{length, drop}
 use lib.Seq.{sets, length-sets}
+use types.Run.{OneOf}
+use denote.Enum.Declared.{tagOf}
 use Rattle.numbers.specs.Form.{bytesOf, widthOf}
 use Rattle.numbers.proofs.Groups.{width-counts}
 use Rattle.trace.proofs.Stores.{sets-append}
 use Rattle.record.specs.Bytes.{bytesOfAll}
 use Rattle.words.specs.Text.{wordsOf, numbersOf}
+use Rattle.words.specs.Answer.{encodeAnswer, ifBytes, encoded}
 use Rattle.words.specs.Inside.{wordFrom, Fits}
+use Rattle.words.specs.declared.EncodeAnswer.{EncodeAnswer}
+use Rattle.words.proofs.EncodeAnswer.{the-type}
+use Rattle.words.specs.declared.EncodeAnswer.the-variants.{Bytes, NotANumber, TooLarge, NoRoom}
 use Rattle.words.specs.declared.next.Word.the-variants.{Number, NotDigits, Large, Nothing}
 use Rattle.words.proofs.Turns.{found, found-none, fits-not, fits-large, fits-room, fits-next}
 
@@ -61,3 +68,20 @@ module _ {text old out : List ℕ} {from at : ℕ} (p : Put text old out from at
               ∙ p .bytes;
           same = ap length q ∙ length-sets out at (bytesOf v) ∙ p .same;
         }
+
+-- an answer that is not the first of its enum is a refusal
+not-bytes : (r : EncodeAnswer) (new old : List ℕ) → OneOf (1 ∷ 2 ∷ 3 ∷ []) (tagOf the-type r) → old ≡ ifBytes r new old
+not-bytes (Bytes n) new old h = absurd (⊎-elim (λ e. omega arith) (λ h′. ⊎-elim (λ e. omega arith) (λ e. omega arith) h′) h)
+not-bytes (NotANumber k) new old h = refl
+not-bytes (TooLarge k) new old h = refl
+not-bytes (NoRoom k) new old h = refl
+
+module _ (text old : List ℕ) (r : EncodeAnswer) (q : r ≡ encodeAnswer text old) where
+  abbrev all : List ℕ
+  all = sets old 0 (bytesOfAll (numbersOf (wordsOf text)))
+
+  pub kept : OneOf (1 ∷ 2 ∷ 3 ∷ []) (tagOf the-type r) → old ≡ encoded text old
+  kept h = not-bytes r all old h ∙ ap (λ (x : EncodeAnswer). ifBytes x all old) q
+
+  pub put-all : (out : List ℕ) (n : ℕ) → out ≡ all → r ≡ Bytes n → out ≡ encoded text old
+  put-all out n p e = p ∙ ap (λ (x : EncodeAnswer). ifBytes x all old) (sym e ∙ q)

@@ -8,7 +8,7 @@ use mathlib.Core.Logic.{⊎-elim}
 use native.Mathlib.Omega.{arith}
 use lib.Dec.{ltb, leb}
 use lib.ListN.{length, take, drop}
-use borrow.Author.Tests.{le-leb, lt-leb}
+use borrow.Author.Tests.{le-leb, lt-leb, leb-true}
 use Rattle.field.proofs.Cases.{below?}
 use Rattle.numbers.specs.Form.{widthOf}
 use Rattle.words.specs.Text.{digits, valueOf, wordsOf, numbersOf}
@@ -124,6 +124,9 @@ isBytes (NotANumber k) = false
 isBytes (TooLarge k) = false
 isBytes (NoRoom k) = false
 
+clash : (x : EncodeAnswer) (n : ℕ) → isBytes x ≡ false → x ≡ Bytes n → ⊥
+clash x n f e = let z : isBytes (Bytes n) ≡ false = ap isBytes (sym e) ∙ f in let y : _≡_ {A = ℕ} 0 1 = cc in absurd (omega arith)
+
 module _ (room k at : ℕ) (text : List ℕ) (from : ℕ) where
   abbrev left : EncodeAnswer
   left = answerFrom room k at (wordsOf (drop from text))
@@ -149,9 +152,6 @@ module _ (room k at : ℕ) (text : List ℕ) (from : ℕ) where
       ap₂ (λ (x y : ℕ). answerFrom room x y (wordsOf (drop next text))) i j ∙ rw (le-leb (at + widthOf v) room l) at (by-first (Number v next) e)
 
   -- where all words fit, the first is a number, and the others fit behind it
-  clash : (x : EncodeAnswer) (n : ℕ) → isBytes x ≡ false → x ≡ Bytes n → ⊥
-  clash x n f e = let z : isBytes (Bytes n) ≡ false = ap isBytes (sym e) ∙ f in let y : _≡_ {A = ℕ} 0 1 = cc in absurd (omega arith)
-
   pub fits-not : Fits room k at (wordsOf (drop from text)) → NotDigits ≡ wordFrom text from → ⊥
   fits-not f e = clash (NotANumber k) (f .0) refl (measure-not e ∙ f .1)
 
@@ -163,3 +163,22 @@ module _ (room k at : ℕ) (text : List ℕ) (from : ℕ) where
 
   pub fits-next : (v next : ℕ) → Fits room k at (wordsOf (drop from text)) → Number v next ≡ wordFrom text from → Fits room (suc k) (at + widthOf v) (wordsOf (drop next text))
   fits-next v next f e = (f .0, measure-next v next (suc k) (at + widthOf v) e refl refl (fits-room v next f e) ∙ f .1)
+
+abbrev bytesIn : EncodeAnswer → ℕ
+bytesIn (Bytes n) = n
+bytesIn (NotANumber k) = 0
+bytesIn (TooLarge k) = 0
+bytesIn (NoRoom k) = 0
+
+within-word : (room k at v : ℕ) (ws : List (List ℕ)) (n : ℕ) → ((k at n : ℕ) → at ≤ room → answerFrom room k at ws ≡ Bytes n → n ≤ room) → (b d r : Bool) → leb (at + widthOf v) room ≡ r
+    → cond b (cond d (cond r (answerFrom room (suc k) (at + widthOf v) ws) (NoRoom k)) (TooLarge k)) (NotANumber k) ≡ Bytes n → n ≤ room
+within-word room k at v ws n f true true true l e = f (suc k) (at + widthOf v) n (leb-true (at + widthOf v) room l) e
+within-word room k at v ws n f true true false l e = absurd (clash (NoRoom k) n refl e)
+within-word room k at v ws n f true false r l e = absurd (clash (TooLarge k) n refl e)
+within-word room k at v ws n f false d r l e = absurd (clash (NotANumber k) n refl e)
+
+-- an accepted text's bytes have room, as a program that writes them out has to know
+pub bytes-within : (room : ℕ) (ws : List (List ℕ)) (k at n : ℕ) → at ≤ room → answerFrom room k at ws ≡ Bytes n → n ≤ room
+unfolding answerFrom
+bytes-within room [] k at n h e = omega (arith, ap bytesIn e)
+bytes-within room (w ∷ ws) k at n h e = within-word room k at (valueOf w) ws n (bytes-within room ws) (digits w) (ltb (valueOf w) (2 ^ 64)) (leb (at + widthOf (valueOf w)) room) refl e

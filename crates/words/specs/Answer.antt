@@ -26,12 +26,12 @@ answerFrom room k at (w ∷ ws) =
 abbrev pub encodeAnswer : List ℕ → List ℕ → EncodeAnswer
 encodeAnswer text out = answerFrom (length out) 1 0 (wordsOf text)
 
-abbrev pub where-bytes : EncodeAnswer → List ℕ → List ℕ → List ℕ
-where-bytes (Bytes n) new old = new
-where-bytes (NotANumber k) new old = old
-where-bytes (TooLarge k) new old = old
-where-bytes (NoRoom k) new old = old
+abbrev pub ifBytes : EncodeAnswer → List ℕ → List ℕ → List ℕ
+ifBytes (Bytes n) new old = new
+ifBytes (NotANumber k) new old = old
+ifBytes (TooLarge k) new old = old
+ifBytes (NoRoom k) new old = old
 
 -- the bytes of the words' numbers; or all as it was, where a word is refused
 abbrev pub encoded : List ℕ → List ℕ → List ℕ
-encoded text out = where-bytes (encodeAnswer text out) (sets out 0 (bytesOfAll (numbersOf (wordsOf text)))) out
+encoded text out = ifBytes (encodeAnswer text out) (sets out 0 (bytesOfAll (numbersOf (wordsOf text)))) out

@@ -71,14 +71,18 @@ fn put_words(text: &[u8], out: &mut [u8])
     let mut at: usize = 0;
     loop {
         let found = next_word(text, from);
-        let Word::Number(v, next) = found else {
-            return;
-        };
-        let written = write(v, out, at);
-        let WriteAnswer::Next(after) = written else {
-            return;
-        };
-        from = next;
-        at = after;
+        match found {
+            Word::Number(v, next) => {
+                let written = write(v, out, at);
+                let WriteAnswer::Next(after) = written else {
+                    return;
+                };
+                from = next;
+                at = after;
+            }
+            Word::NotDigits => return,
+            Word::Large => return,
+            Word::Nothing => return,
+        }
     }
 }

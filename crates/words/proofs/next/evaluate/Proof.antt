@@ -57,11 +57,12 @@ loop-less c = search needs
 loop-again : tie.Need-loop-again Inv-loop μ-loop
 loop-again c =
     let l = c .before .before .before .before .loop in
-    let w = c .before .before .before .before .before .before .args .word .now in
-    (search needs,
-    ap (λ (d : ℕ). valueAfter (l .value * 10 + d) (drop (l .i + 1) w)) (c .before .digit-of .ensures)
-    ∙ sym (value-next w (l .i) (c .before .before .before .loop-test .taken) (l .value))
-    ∙ l .inv .1)
+    let w = c .before .before .before .before .before .before .args .word .now in (
+      search needs,
+      ap (λ (d : ℕ). valueAfter (l .value * 10 + d) (drop (l .i + 1) w)) (c .before .digit-of .ensures)
+          ∙ sym (value-next w (l .i) (c .before .before .before .loop-test .taken) (l .value))
+          ∙ l .inv .1,
+    )
 
 returns-2 : tie.Need-returns-2 Inv-loop μ-loop
 returns-2 c =
