@@ -20,9 +20,8 @@ fn complain_of(word: usize, what: &[u8]) {
     complain(what);
 }
 
-fn encode(text: &[u8]) {
-    let mut bytes = [0u8; MOST_TEXT];
-    let answer = words::encode(text, &mut bytes);
+fn encode(text: &[u8], bytes: &mut [u8]) {
+    let answer = words::encode(text, bytes);
     match answer {
         EncodeAnswer::Bytes(n) => {
             io::write_all(STDOUT_FILENO, &bytes[..n]);
@@ -40,5 +39,6 @@ fn main() {
         complain(b"the words take more than 65536 bytes\n");
         return;
     }
-    encode(&text[..n]);
+    let mut bytes = [0u8; MOST_TEXT];
+    encode(&text[..n], &mut bytes);
 }
