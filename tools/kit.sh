@@ -1,3 +1,4 @@
+# shellcheck shell=sh disable=SC2154
 # For ./test and ./run, which source it: says what is wrong and ends, and wants the kit of kit.txt.
 # $who is the command that speaks, and $root the repository.
 
