@@ -47,45 +47,27 @@ fn read_head(input: &[u8]) -> HeadAnswer
     ensures { λ r. ⌜ HeadIs r (now (input .entry)) ⌝ }
 {
     let ctx = match read_below(input, 0, U32_BOUND) {
-        ReadAnswer::Number(value, next) => Number {
-            value: value,
-            next: next,
-        },
+        ReadAnswer::Number(value, next) => Number { value: value, next: next },
         ReadAnswer::Refused(number, place) => return HeadAnswer::Refused(number, place),
     };
     let clk = match read_below(input, ctx.next, U32_BOUND) {
-        ReadAnswer::Number(value, next) => Number {
-            value: value,
-            next: next,
-        },
+        ReadAnswer::Number(value, next) => Number { value: value, next: next },
         ReadAnswer::Refused(number, place) => return HeadAnswer::Refused(number, place),
     };
     let ptr = match read(input, clk.next) {
-        ReadAnswer::Number(value, next) => Number {
-            value: value,
-            next: next,
-        },
+        ReadAnswer::Number(value, next) => Number { value: value, next: next },
         ReadAnswer::Refused(number, place) => return HeadAnswer::Refused(number, place),
     };
     let num_vars = match read(input, ptr.next) {
-        ReadAnswer::Number(value, next) => Number {
-            value: value,
-            next: next,
-        },
+        ReadAnswer::Number(value, next) => Number { value: value, next: next },
         ReadAnswer::Refused(number, place) => return HeadAnswer::Refused(number, place),
     };
     let num_eval = match read(input, num_vars.next) {
-        ReadAnswer::Number(value, next) => Number {
-            value: value,
-            next: next,
-        },
+        ReadAnswer::Number(value, next) => Number { value: value, next: next },
         ReadAnswer::Refused(number, place) => return HeadAnswer::Refused(number, place),
     };
     let cells = match read(input, num_eval.next) {
-        ReadAnswer::Number(value, next) => Number {
-            value: value,
-            next: next,
-        },
+        ReadAnswer::Number(value, next) => Number { value: value, next: next },
         ReadAnswer::Refused(number, place) => return HeadAnswer::Refused(number, place),
     };
     HeadAnswer::Head(Head {
