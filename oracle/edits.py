@@ -11,15 +11,12 @@ MOD = ACE + "mod.rs"
 EVAL_CIRCUIT = "src/execution/operations/eval_circuit.rs"
 FILES = [TRACE, INSTRUCTION, MOD, EVAL_CIRCUIT]
 
-END = None
-
 # file, old text, new text
 REPLACED = [
     # a module that sees private fields (opened.rs)
     (TRACE, "use super::{\n", "mod opened;\npub use opened::Opened;\n\nuse super::{\n"),
     (MOD, "pub use trace::CircuitEvaluation;\n", "pub use trace::{CircuitEvaluation, Opened};\n"),
-    # what the cuts below leave unused
-    (TRACE, "    serde::{ByteReader, ByteWriter, Deserializable, DeserializationError, Serializable},\n", ""),
+    # what the cut below leaves unused
     (EVAL_CIRCUIT, "    processor::{MemoryInterface, Processor, StackInterface, SystemInterface},\n",
      "    processor::MemoryInterface,\n"),
     (EVAL_CIRCUIT, "    tracer::Tracer,\n", ""),
@@ -27,8 +24,6 @@ REPLACED = [
 
 # file, the text where the cut begins, the text before which it ends
 CUT = [
-    # bytes: the traits of the Rust's serialization are not to be had
-    (TRACE, "// SERIALIZATION\n", END),
     # the operation of the virtual machine around `eval_circuit_impl`
     (EVAL_CIRCUIT, "/// Checks that the evaluation of an arithmetic circuit is equal to zero.\n",
      "/// Constructs a witness for an arithmetic circuit"),
@@ -48,7 +43,7 @@ def edited(file, text):
         text = text.replace(old, new)
     for _, start, end in (cut for cut in CUT if cut[0] == file):
         first = place(file, text, start)
-        last = len(text) if end is END else place(file, text, end)
+        last = place(file, text, end)
         if last < first:
             sys.exit(f"oracle: in {file} a cut ends before it begins")
         text = text[:first] + text[last:]

@@ -1,5 +1,5 @@
-//! The root of the Rust's crate, as far as its ACE chiplet needs one, and the call of its whole
-//! evaluation over a flat memory.
+//! The root of the Rust's crate, as far as its ACE chiplet needs one, the call of its whole evaluation over
+//! a flat memory, its rows (columns.rs) and its records (records.rs).
 
 extern crate alloc;
 
@@ -9,8 +9,13 @@ use execution::operations::eval_circuit::eval_circuit_impl;
 use memory::FlatMemory;
 pub use trace::chiplets::{CircuitEvaluation, Opened};
 
+mod columns;
 mod errors;
 mod memory;
+mod records;
+
+pub use columns::Row;
+pub use records::{Failed, Tried, try_read};
 
 mod execution {
     pub mod operations {

@@ -7,6 +7,9 @@ use miden_core::Felt;
 
 pub mod trace {
     use miden_core::Felt;
+    use miden_core::serde::{
+        ByteReader, ByteWriter, Deserializable, DeserializationError, Serializable,
+    };
 
     #[derive(Debug, Clone, Copy, PartialEq, Eq, PartialOrd, Ord)]
     pub struct RowIndex(u32);
@@ -26,6 +29,18 @@ pub mod trace {
     impl From<RowIndex> for Felt {
         fn from(RowIndex(index): RowIndex) -> Felt {
             Felt::from_u32(index)
+        }
+    }
+
+    impl Serializable for RowIndex {
+        fn write_into<W: ByteWriter>(&self, target: &mut W) {
+            self.0.write_into(target);
+        }
+    }
+
+    impl Deserializable for RowIndex {
+        fn read_from<R: ByteReader>(source: &mut R) -> Result<RowIndex, DeserializationError> {
+            u32::read_from(source).map(RowIndex)
         }
     }
 

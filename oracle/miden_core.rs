@@ -1,4 +1,7 @@
-//! What the Rust takes from its crate miden_core: the field, pairs of its elements, and words.
+//! What the Rust takes from its crate miden_core: the field, pairs of its elements, words, and
+//! serialization (serde.rs).
+
+pub mod serde;
 
 use std::ops::{Add, AddAssign, Mul, Neg, Sub, SubAssign};
 
@@ -83,6 +86,16 @@ pub mod field {
     /// "A pair (a0, a1) stands for a0 + a1·X with X·X = 7."
     #[derive(Debug, Clone, Copy, PartialEq, Eq)]
     pub struct QuadFelt([Felt; 2]);
+
+    impl QuadFelt {
+        pub const fn of_cells(cells: [Felt; 2]) -> QuadFelt {
+            QuadFelt(cells)
+        }
+
+        pub const fn cells(self) -> [Felt; 2] {
+            self.0
+        }
+    }
 
     const X_SQUARED: Felt = Felt::from_u32(7);
 

@@ -1,19 +1,11 @@
-//! What the cases of whole evaluation are made of.
+//! Circuits by hand, and what they are made of.
 
-use crate::field::{ID_BITS, OPCODE_BITS, P};
-use crate::steps::needs;
-use crate::whole::Call;
-use crate::{Question, Said, Setting};
+use crate::field::{ID_BITS, OPCODE_BITS};
 
 /// "0 Sub, 1 Mul, 2 Add."
 pub const SUB: u64 = 0;
 pub const MUL: u64 = 1;
 pub const ADD: u64 = 2;
-
-/// The last id that a word can name.
-pub const LAST_ID: u64 = (1 << ID_BITS) - 1;
-
-pub const NEAR_P: [u64; 3] = [P - 1, P, u64::MAX];
 
 pub fn gate(opcode: u64, left: u64, right: u64) -> u64 {
     (opcode << OPCODE_BITS) | (right << ID_BITS) | left
@@ -55,90 +47,7 @@ pub fn sixteen() -> Circuit {
 }
 
 impl Circuit {
-    pub fn num_wires(&self) -> u64 {
-        (self.variables.len() + self.gates.len()) as u64
-    }
-
     pub fn cells(&self) -> Vec<u64> {
         [self.variables.concat(), self.gates.clone()].concat()
-    }
-
-    pub fn with_gate(&self, k: usize, word: u64) -> Circuit {
-        let mut circuit = self.clone();
-        circuit.gates[k] = word;
-        circuit
-    }
-
-    /// The evaluation of the circuit at an address, with all that it needs and nothing more.
-    pub fn at(&self, ptr: u64) -> Setting {
-        exact(ptr, self.variables.len() as u64, self.gates.len() as u64)
-    }
-}
-
-/// What the whole circuit needs, and nothing more.
-pub fn exact(ptr: u64, num_vars: u64, num_eval: u64) -> Setting {
-    Setting {
-        lent: needs((num_vars / 2) as u32, num_eval as u32).map(|need| need as usize),
-        memory: (ptr + 2 * num_vars + num_eval) as usize,
-        call: Call {
-            ctx: 0,
-            clk: 7,
-            ptr,
-            num_vars,
-            num_eval,
-        },
-    }
-}
-
-impl Setting {
-    pub fn with_counts(mut self, num_vars: u64, num_eval: u64) -> Setting {
-        self.call.num_vars = num_vars;
-        self.call.num_eval = num_eval;
-        self
-    }
-
-    pub fn with_ptr(mut self, ptr: u64) -> Setting {
-        self.call.ptr = ptr;
-        self
-    }
-
-    pub fn with_memory(mut self, memory: usize) -> Setting {
-        self.memory = memory;
-        self
-    }
-
-    pub fn with_lent(mut self, lent: [usize; 3]) -> Setting {
-        self.lent = lent;
-        self
-    }
-}
-
-pub struct Script(pub Vec<Question>);
-
-impl Script {
-    /// Memory that holds the circuit at an address, and no other element.
-    pub fn place(&mut self, circuit: &Circuit, ptr: u64) {
-        self.0.push(Question::Begin);
-        for (at, &cell) in (ptr..).zip(&circuit.cells()) {
-            self.cell(at, cell);
-        }
-    }
-
-    pub fn cell(&mut self, at: u64, cell: u64) {
-        self.0.push(Question::Cell(at as usize, cell));
-    }
-
-    pub fn ask(&mut self, said: Said, setting: Setting) {
-        self.0.push(Question::Evaluate(said, setting));
-    }
-
-    pub fn cells(&mut self, setting: Setting) {
-        self.ask(Said::Cells, setting);
-    }
-
-    /// The circuit at address 0, with what it needs.
-    pub fn evaluate(&mut self, circuit: &Circuit) {
-        self.place(circuit, 0);
-        self.cells(circuit.at(0));
     }
 }

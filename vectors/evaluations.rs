@@ -1,28 +1,43 @@
 //! The questions of the program `evaluations` and the answers that document 01 gives to them: whole
 //! evaluation of circuits in memory, over buffers whose cells are canaries at first. `evaluations
 //! questions` and `evaluations answers` write them; only evaluations are answered, by a line each. Built
-//! with the oracle (cfg `oracle`), `answers` puts every case to the Rust too, and stops where it
-//! disagrees.
+//! with the oracle (cfg `oracle`), `answers` puts every case to the Rust too, and of those that it accepts
+//! the rows and the record's bytes that document 01 gives; it stops where the Rust disagrees.
 
+mod changes;
 mod circuits;
+#[cfg(oracle)]
+mod coding;
 mod field;
 #[cfg(oracle)]
 mod judge;
 mod lines;
 mod pattern;
 mod random;
+#[cfg(oracle)]
+mod reader;
+#[cfg(oracle)]
+mod record;
+#[cfg(oracle)]
+mod row_names;
+#[cfg(oracle)]
+mod rows;
 mod spoil;
 mod steps;
 mod whole;
 mod whole_cases;
 mod whole_large;
 mod whole_random;
+mod whole_script;
 mod whole_values;
+#[cfg(oracle)]
+mod writer;
 
 use std::fmt;
 use std::io;
 use std::process::ExitCode;
 
+use changes::write_changes;
 use field::P;
 use lines::{write_lines, write_numbers};
 use pattern::{sum, Pattern};
@@ -104,27 +119,6 @@ impl Buffers {
             sum(self.nodes.iter().copied()),
         ]
     }
-}
-
-/// Each run of cells that are no canaries: its first place, and the cells.
-fn write_changes<T: Copy + PartialEq + fmt::Display>(
-    f: &mut fmt::Formatter<'_>,
-    letter: char,
-    cells: &[T],
-    canaries: impl Iterator<Item = T>,
-) -> fmt::Result {
-    let mut is_after_change = false;
-    for (i, (cell, canary)) in cells.iter().zip(canaries).enumerate() {
-        let is_changed = *cell != canary;
-        if is_changed && !is_after_change {
-            write!(f, " {letter}{i}")?;
-        }
-        if is_changed {
-            write!(f, " {cell}")?;
-        }
-        is_after_change = is_changed;
-    }
-    Ok(())
 }
 
 fn answer(said: Said, setting: &Setting, memory: &[u64]) -> Answer {

@@ -2,6 +2,7 @@
 //! parts 1 to 3 here, and after them those of `number_cases`. `generate questions` and `generate answers`
 //! write one line each, in the same order.
 
+mod coding;
 mod field;
 mod lines;
 mod number_cases;

@@ -2,11 +2,15 @@
 
 use std::io;
 
-use oracle::Opened;
+use oracle::{try_read, CircuitEvaluation, Opened};
 
 use crate::field::P;
-use crate::steps::{needs, Header};
+use crate::reader::read_from;
+use crate::row_names;
+use crate::rows::{fill, WIDTH};
+use crate::steps::{needs, Header, Lent};
 use crate::whole::Call;
+use crate::writer::write;
 use crate::{Answer, Buffers, Setting};
 
 /// How each of the Rust's errors begins, and the numbers that it stands for: the Rust does not tell
@@ -54,10 +58,47 @@ fn is_same(opened: &Opened, header: &Header, buffers: &Buffers) -> bool {
         && buffers.nodes.starts_with(&opened.nodes)
 }
 
+fn lent(opened: &mut Opened) -> Lent<'_> {
+    Lent {
+        values: &mut opened.values,
+        counts: &mut opened.counts,
+        nodes: &mut opened.nodes,
+    }
+}
+
+/// The rows, at an offset: all that the Rust fills.
+fn is_filled_alike(evaluation: &CircuitEvaluation, header: &Header, offset: usize) -> bool {
+    let rows = evaluation.rows(offset);
+    let mut cells = vec![P; WIDTH * (offset + rows.len())];
+    let mut opened = evaluation.opened();
+    fill(*header, &lent(&mut opened), offset as u64, &mut cells).is_ok()
+        && row_names::is_same(&cells[WIDTH * offset..], header.num_read, &rows)
+}
+
+/// The bytes that the Rust writes, and what they read back to.
+fn is_written_alike(evaluation: &CircuitEvaluation, header: &Header) -> bool {
+    let mut opened = evaluation.opened();
+    let bytes = evaluation.bytes();
+    let mut out = vec![0; bytes.len()];
+    let written = write(*header, &lent(&mut opened), &mut out);
+    let mut read = opened.clone();
+    read.values.fill(P);
+    read.counts.fill(u32::MAX);
+    read.nodes.fill(P);
+    let is_back = read_from(&out, &mut lent(&mut read)).is_ok_and(|back| back == *header);
+    let rust = try_read(&bytes).read;
+    written.is_ok_and(|written| written == bytes.len())
+        && out == bytes
+        && is_back
+        && read == opened
+        && rust.is_ok_and(|back| back.opened() == opened)
+}
+
 #[derive(Default)]
 pub struct Judge {
     cases: usize,
     judged: usize,
+    accepted: usize,
 }
 
 impl Judge {
@@ -90,6 +131,13 @@ impl Judge {
             (Some(Ok(evaluation)), Ok(header))
                 if is_same(&evaluation.opened(), header, &answer.buffers) =>
             {
+                self.accepted += 1;
+                if !is_filled_alike(&evaluation, header, self.accepted % 3) {
+                    return Err(disagreement(setting, "it fills other rows"));
+                }
+                if !is_written_alike(&evaluation, header) {
+                    return Err(disagreement(setting, "it writes or reads other bytes"));
+                }
                 Ok(())
             }
             (Some(Ok(_)), _) => Err(disagreement(setting, "it accepts")),
@@ -100,7 +148,14 @@ impl Judge {
     }
 
     pub fn report(&self) {
-        let Judge { cases, judged } = self;
-        eprintln!("evaluations: of {cases} cases the Rust judged {judged}, and agrees");
+        let Judge {
+            cases,
+            judged,
+            accepted,
+        } = self;
+        eprintln!(
+            "evaluations: of {cases} cases the Rust judged {judged}, and agrees, on rows and bytes of \
+             the {accepted} that it accepts too"
+        );
     }
 }

@@ -1,6 +1,7 @@
 //! Which numbers in groups of seven bits the program `vectors` is asked about.
 
-use crate::numbers::{encode, width, Question, BUFFER, GROUP_BITS, HIGH_BIT, MOST_BYTES};
+use crate::coding::{encode, width, GROUP_BITS, HIGH_BIT, MOST_BYTES};
+use crate::numbers::{Question, BUFFER};
 use crate::{Random, P, TWO_32};
 
 /// Two, so that a store of either byte shows in a buffer that is filled with the other.

@@ -1,9 +1,10 @@
 //! What makes an evaluation be refused: one change each, of what is asked or of memory, so that two of
 //! them can be made at once.
 
-use crate::circuits::{exact, gate, Script, ADD, LAST_ID};
+use crate::circuits::{gate, ADD};
 use crate::field::P;
 use crate::pattern::Pattern;
+use crate::whole_script::{exact, Script, LAST_ID};
 use crate::{Question, Said, Setting, MEMORY};
 
 /// Gates are counted from 0. The name of each gives the refusal.

@@ -10,8 +10,8 @@ const FULL_COUNT: u32 = 4_294_967_295;
 
 /// "7 a READ node (ptr, id_0, v_0, id_1, v_1), then 11 an EVAL node (ptr, eval_op, id_0, v_0, id_1,
 /// v_1, id_2, v_2), a pair taking two cells."
-const READ_NODE: usize = 7;
-const EVAL_NODE: usize = 11;
+pub const READ_NODE: usize = 7;
+pub const EVAL_NODE: usize = 11;
 
 #[derive(Clone, Copy, Default, PartialEq)]
 pub struct State {
@@ -25,6 +25,7 @@ pub struct State {
 }
 
 /// "A record header holds ctx, clk, num_read, num_eval (each u32) and id_next."
+#[derive(Clone, Copy, PartialEq)]
 pub struct Header {
     pub ctx: u32,
     pub clk: u32,
@@ -40,17 +41,18 @@ pub struct Lent<'a> {
 }
 
 /// "What isn't in 'also returns' is 0."
+#[derive(Clone, Copy, PartialEq)]
 pub struct Refusal {
     pub number: u32,
     pub place: u64,
 }
 
-fn refuse<T>(number: u32, place: u64) -> Result<T, Refusal> {
+pub fn refuse<T>(number: u32, place: u64) -> Result<T, Refusal> {
     Err(Refusal { number, place })
 }
 
 /// "With num_wires = 2·num_read + num_eval": a READ step makes two wires, an EVAL step one.
-fn wires(reads: u32, evals: u32) -> u128 {
+pub fn wires(reads: u32, evals: u32) -> u128 {
     2 * u128::from(reads) + u128::from(evals)
 }
 
@@ -63,7 +65,7 @@ pub fn needs(num_read: u32, num_eval: u32) -> [u128; 3] {
 }
 
 /// "6: a lent value, count or node buffer is shorter than the whole circuit needs."
-fn check_room(num_read: u32, num_eval: u32, lent: &Lent<'_>) -> Result<(), Refusal> {
+pub fn check_room(num_read: u32, num_eval: u32, lent: &Lent<'_>) -> Result<(), Refusal> {
     let lengths = [lent.values.len(), lent.counts.len(), lent.nodes.len()];
     let needed = needs(num_read, num_eval);
     let short = lengths
@@ -117,7 +119,7 @@ impl State {
 
     /// "13 looks at the state's own numbers: counts opening would accept, steps done not past their
     /// end, id_next as they say." "All READ steps come before the EVAL steps."
-    fn is_sound(&self) -> bool {
+    pub fn is_sound(&self) -> bool {
         let opened = [self.ctx, self.clk, self.num_read, self.num_eval];
         check_counts(self.num_read, self.num_eval).is_ok()
             && self.reads_done <= self.num_read

@@ -1,8 +1,9 @@
 //! Refusals by hand: what is asked, and gates that cannot be done. Cells or sums of the buffers are said.
 
-use crate::circuits::{gate, listing, sixteen, Circuit, Script, ADD, LAST_ID, MUL, NEAR_P};
+use crate::circuits::{gate, listing, sixteen, Circuit, ADD, MUL};
 use crate::field::P;
 use crate::spoil::{Placed, Spoil};
+use crate::whole_script::{Script, LAST_ID, NEAR_P};
 use crate::{Question, Said, SMALL};
 
 /// Counts on both sides of each edge of refusals 1, 2 and 3; of some a sum of 32 or 64 bits would wrap.

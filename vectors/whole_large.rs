@@ -1,8 +1,8 @@
 //! Circuits of the sizes that the Rust names, 6,044 and 13,912 wires, and of the largest, 32,768.
 
-use crate::circuits::Script;
 use crate::pattern::Pattern;
 use crate::spoil::Spoil;
+use crate::whole_script::Script;
 use crate::{Question, Said, LARGE};
 
 /// num_vars and num_eval.

@@ -1,11 +1,12 @@
 //! Random circuits: small ones written down and answered by cells, and patterns answered by sums. Of each
 //! kind some are spoilt.
 
-use crate::circuits::{gate, Circuit, Script, SUB};
+use crate::circuits::{gate, Circuit, SUB};
 use crate::field::P;
 use crate::pattern::Pattern;
 use crate::random::Random;
 use crate::spoil::Spoil;
+use crate::whole_script::Script;
 use crate::{Question, Said};
 
 const SEED: u64 = 2;

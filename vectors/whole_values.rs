@@ -1,7 +1,8 @@
 //! Circuits by hand that tell values, counts and nodes, with every cell of the buffers.
 
-use crate::circuits::{gate, Circuit, Script, ADD, MUL, SUB};
+use crate::circuits::{gate, Circuit, ADD, MUL, SUB};
 use crate::field::P;
+use crate::whole_script::Script;
 use crate::Question;
 
 const CORNER_PAIRS: [[u64; 2]; 6] = [

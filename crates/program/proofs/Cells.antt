@@ -7,7 +7,7 @@ use native.Mathlib.Omega.{arith}
 use lib.ListN.{length, take, drop, drop-of-length-le}
 use lib.Seq.{sets, take-at}
 use Rattle.field.specs.Told.{Told, refused}
-use Rattle.eval_circuit.proofs.Cases.{clash}
+use Rattle.record.proofs.Ways.{clash}
 use Rattle.record.proofs.Used.{front-set}
 use Rattle.program.specs.Inside.{WhereAccepted}
 

@@ -12,9 +12,9 @@ use borrow.Author.Tests.{lt-ltb, le-ltb, lt-leb, le-leb, ltb-false}
 use Rattle.field.specs.Told.{Told, accepted, refused, orElse}
 use Rattle.trace.specs.Counts.{mostWires}
 use Rattle.trace.proofs.Choices.{second-fails, not-stopped}
-use Rattle.record.specs.Numbers.{nextAt, after, numbersFrom, numbersAnswer}
+use Rattle.record.specs.Numbers.{after, numbersFrom, numbersAnswer}
 use Rattle.record.proofs.Ways.{values-are, goes-on, stops, passed}
-use Rattle.record.proofs.Numbers.{place-after, first-below, rest-accepted}
+use Rattle.record.proofs.Numbers.{numbers-of, place-after}
 use Rattle.program.specs.Input.{ctxIn, clkIn, varsIn, evalsIn, cellsIn, cellsAt, memoryIn, headAnswer, mostCells, cellsAnswer, mostHere, overRoom, inputAnswer}
 
 -- the cells
@@ -128,14 +128,15 @@ pub record Good (s : List ℕ) : Type 0 where
   pub room : overRoom (varsIn s + evalsIn s) ≡ false
 
 pub input-good : (s vs : List ℕ) → inputAnswer s ≡ accepted vs → Good s
-unfolding inputAnswer headAnswer ctxIn clkIn after
+unfolding inputAnswer headAnswer ctxIn clkIn after numbersFrom
 input-good s vs e =
     let a = passed (headAnswer s) (orElse (cells s) (last s)) vs e in
     let h = passed (numbersAnswer (2 ^ 32) 2 s 0) (numbersAnswer (2 ^ 64) 4 s (after 2 s 0)) (a .values) (a .first) in
+    let n = numbers-of (2 ^ 32) s 2 0 (h .values) (h .first) .1 in
     let c = passed (cells s) (last s) vs (a .then) in
     record {
-      ctx-fits = first-below (2 ^ 32) s 1 0 (h .values) (h .first);
-      clk-fits = first-below (2 ^ 32) s 0 (nextAt s 0) (h .values) (rest-accepted (2 ^ 32) s 1 0 (h .values) (h .first));
+      ctx-fits = n .0;
+      clk-fits = n .1 .0;
       few-cells = cells-few (cellsIn s) s (cellsAt s) (c .values) (c .first);
       room = not-stopped (overRoom (varsIn s + evalsIn s)) (accepted (0 ∷ after (cellsIn s) s (cellsAt s) ∷ [])) 24 0 vs (c .then) .0;
     }

@@ -1,16 +1,16 @@
 -- The bytes of a record that passes the writer's tests are accepted by the reader, and the record is what it finds.
 -- Assumes nothing.
-use Prim.Native.Nat.{ℕ, zero, suc, _+_, _*_, _^_, _≤_, _<_}
-use mathlib.Core.Path.{_≡_, refl, sym, ap, ap₂, _∙_, subst}
+use Prim.Native.Nat.{ℕ, _+_, _*_, _^_, _<_}
+use mathlib.Core.Path.{_≡_, refl, sym, ap₂, _∙_, subst}
 use mathlib.Core.List.{List, [], _∷_, _++_, append-nil}
 use native.Mathlib.Nat.{zero-add}
 use native.Mathlib.Omega.{arith}
 use lib.ListN.{length, getD, take, drop, length-drop}
-use lib.Seq.{getD-take, getD-drop, length-take-le, take-add}
+use lib.Seq.{length-take-le, take-add}
 use Rattle.field.specs.Told.{accepted}
 use Rattle.field.specs.Field.{p}
 use Rattle.field.specs.Lists.{each}
-use Rattle.field.proofs.Each.{each-none, each-more}
+use Rattle.numbers.proofs.Below.{below-accepted}
 use Rattle.trace.specs.declared.RecordHeader.{RecordHeader}
 use Rattle.trace.specs.Outcome.{Lent}
 use Rattle.trace.specs.Output.{headerNumbers}
@@ -18,45 +18,32 @@ use Rattle.trace.specs.Record.{recordWires, recordCells}
 use Rattle.trace.proofs.Tests.{Fits}
 use Rattle.trace.proofs.Records.{Recorded}
 use Rattle.record.specs.Bytes.{wireNumbers, readCells, evalCells, recordNumbers, recordBytes}
-use Rattle.record.specs.Reading.{u32, wiresAt, declaredAt, declaredIn, readListAt, readsIn, readsAt, evalListAt, evalsIn, evalsAt, endAt, declaredAnswer, fieldsAnswer, headerIn}
-use Rattle.record.proofs.Sequence.{AllBelow, below-wider, below-append, all-below, Stand, written-stand}
-use Rattle.record.proofs.WireList.{wires-used}
-use Rattle.record.proofs.FieldsFound.{valuesIn, countsIn, readCellsIn, evalCellsIn}
-use Rattle.record.proofs.FieldsRead.{
-  HeadRead,
-  head-read,
-  ListRead,
-  list-read,
-  LengthsRead,
-  lengths-read,
-  declared-pass,
-  nodes-pass,
-  ReadsRead,
-  reads-read,
-  EvalsRead,
-  evals-read,
-  end-pass,
-  fields-pass,
+use Rattle.record.specs.Reading.{
+  u32,
+  wiresIn,
+  wiresAt,
+  declaredAt,
+  declaredIn,
+  readListAt,
+  readsIn,
+  readsAt,
+  evalListAt,
+  evalsIn,
+  evalsAt,
+  declaredAnswer,
+  nodesAnswer,
+  fieldsAnswer,
+  headerIn,
 }
-
--- parts that are below a bound, one after the other
-each-below : (bound : ℕ) (f : ℕ → List ℕ) (n : ℕ) → ((k : ℕ) → k < n → AllBelow bound (f k)) → AllBelow bound (each f n)
-each-below bound f zero h = subst (AllBelow bound) (sym (each-none f)) tt
-each-below bound f (suc n) h =
-    subst (AllBelow bound) (sym (each-more f n)) (below-append bound (each f n) (f n) (each-below bound f n (λ k l. h k (omega arith))) (h n (omega arith)))
-
--- cells behind others that are below a bound
-part-below : (bound from n : ℕ) (xs : List ℕ) → from + n ≤ length xs → ((k : ℕ) → k < from + n → getD xs k 0 < bound) → AllBelow bound (take n (drop from xs))
-part-below bound from n xs l h =
-    let d = length-drop from xs in
-    let m = length-take-le n (drop from xs) (omega arith) in
-    all-below bound (take n (drop from xs))
-    (λ k i.
-    let j : k < n = omega arith in
-    subst (λ (v : ℕ). v < bound) (sym (getD-take n (drop from xs) k 0 j ∙ getD-drop from xs k 0)) (h (from + k) (omega arith)))
-
-five : {a₁ a₂ a₃ a₄ a₅ b₁ b₂ b₃ b₄ b₅ : ℕ} → a₁ ≡ b₁ → a₂ ≡ b₂ → a₃ ≡ b₃ → a₄ ≡ b₄ → a₅ ≡ b₅ → a₁ ∷ a₂ ∷ a₃ ∷ a₄ ∷ a₅ ∷ [] ≡ b₁ ∷ b₂ ∷ b₃ ∷ b₄ ∷ b₅ ∷ []
-five e₁ e₂ e₃ e₄ e₅ = rw (e₁, e₂, e₃, e₄, e₅)
+use Rattle.record.proofs.Bounds.{AllBelow, below-wider, below-append, each-below, part-below}
+use Rattle.record.proofs.Sequence.{Stand, written-stand}
+use Rattle.record.proofs.WireList.{wires-used}
+use Rattle.record.proofs.RecordParts.{wireList, readList, evalList}
+use Rattle.record.proofs.Loads.{header-is}
+use Rattle.record.proofs.Tests.{declared-is, ends}
+use Rattle.record.proofs.Fields.{fields-end}
+use Rattle.record.proofs.FieldsFound.{valuesIn, countsIn, readCellsIn, evalCellsIn}
+use Rattle.record.proofs.FieldsRead.{HeadRead, head-read, ListRead, list-read, LengthsRead, lengths-read, nodes-pass, ReadsRead, reads-read, EvalsRead, evals-read}
 
 -- a record that the writer's tests pass, and whose ctx, clk and counts are of 32 bits
 module _ (h : RecordHeader) (b : Lent) (r : Recorded h b)
@@ -95,7 +82,7 @@ module _ (h : RecordHeader) (b : Lent) (r : Recorded h b)
   evals-in : AllBelow p (evalCells h b)
   evals-in = part-below p (7 * h .«num_read») (11 * h .«num_eval») (b .nodes) (r .fits .for-nodes) (r .nodes-in)
 
-  wires-in : AllBelow (2 ^ 64) (each (wireNumbers (b .values) (b .counts)) (recordWires h))
+  wires-in : AllBelow (2 ^ 64) (wireList h b)
   wires-in =
       each-below (2 ^ 64) (wireNumbers (b .values) (b .counts)) (recordWires h)
       (λ k l.
@@ -103,32 +90,29 @@ module _ (h : RecordHeader) (b : Lent) (r : Recorded h b)
       let y = r .values-in (2 * k + 1) (omega arith) in
       (omega arith, (omega arith, (omega (arith, counts-below k), tt))))
 
-  abbrev evalList : List ℕ
-  evalList = h .«num_eval» ∷ evalCells h b
-
   abbrev nodeLists : List ℕ
-  nodeLists = recordWires h ∷ h .«num_read» ∷ readCells h b ++ evalList
+  nodeLists = recordWires h ∷ readList h b ++ evalList h b
 
-  eval-list-in : AllBelow (2 ^ 64) evalList
+  eval-list-in : AllBelow (2 ^ 64) (evalList h b)
   eval-list-in = (omega (arith, r .few), below-wider p (2 ^ 64) (evalCells h b) (omega arith) evals-in)
 
   node-lists-in : AllBelow (2 ^ 64) nodeLists
   node-lists-in =
       let cells = below-wider p (2 ^ 64) (readCells h b) (omega arith) reads-in in
-      (omega (arith, r .few), (omega (arith, r .few), below-append (2 ^ 64) (readCells h b) evalList cells eval-list-in))
+      (omega (arith, r .few), (omega (arith, r .few), below-append (2 ^ 64) (readCells h b) (evalList h b) cells eval-list-in))
 
   numbers-in : AllBelow (2 ^ 64) (recordNumbers h b)
   numbers-in =
-      let lists = below-append (2 ^ 64) (each (wireNumbers (b .values) (b .counts)) (recordWires h)) nodeLists wires-in node-lists-in in
+      let lists = below-append (2 ^ 64) (wireList h b) nodeLists wires-in node-lists-in in
       (omega arith, (omega arith, (omega (arith, r .id-in), (omega (arith, r .few), lists))))
 
   -- so they stand in the bytes
 
-  abbrev wireList : ℕ → List ℕ
-  wireList n = each (wireNumbers usedValues usedCounts) n
+  abbrev usedWires : ℕ → List ℕ
+  usedWires n = each (wireNumbers usedValues usedCounts) n
 
   abbrev Stands : List ℕ → Type 0
-  Stands s = Stand (h .ctx ∷ h .clk ∷ h .«id_next» ∷ recordWires h ∷ wireList (recordWires h) ++ nodeLists) s 0 (length s)
+  Stands s = Stand (h .ctx ∷ h .clk ∷ h .«id_next» ∷ recordWires h ∷ usedWires (recordWires h) ++ nodeLists) s 0 (length s)
 
   in-bytes : Stands (recordBytes h b)
   in-bytes =
@@ -142,15 +126,15 @@ module _ (h : RecordHeader) (b : Lent) (r : Recorded h b)
   -- and are found in bytes in which they stand, for buffers with room for them
 
   module _ (s : List ℕ) (stands : Stands s) where
-    head : HeadRead (h .ctx) (h .clk) (h .«id_next») (recordWires h) (wireList (recordWires h) ++ nodeLists) s (length s)
-    head = head-read _ _ _ _ (wireList (recordWires h) ++ nodeLists) s (length s) stands ctx-below clk-below (r .id-in)
+    head : HeadRead (h .ctx) (h .clk) (h .«id_next») (recordWires h) (usedWires (recordWires h) ++ nodeLists) s (length s)
+    head = head-read _ _ _ _ (usedWires (recordWires h) ++ nodeLists) s (length s) stands ctx-below clk-below (r .id-in)
 
     module _ (values counts nodes : ℕ) (f : Fits (h .«num_read») (h .«num_eval») values counts nodes) where
       list : ListRead usedValues usedCounts nodeLists s (length s) values counts
       list =
           let n = head .wires-are in
           list-read usedValues usedCounts nodeLists s (length s) values counts
-          (subst (λ (k : ℕ). Stand (wireList k ++ nodeLists) s (wiresAt s) (length s)) (sym n) (head .others))
+          (subst (λ (k : ℕ). Stand (usedWires k ++ nodeLists) s (wiresAt s) (length s)) n (head .others))
           (omega (arith, n, values-many))
           (omega (arith, n, counts-many))
           values-in
@@ -158,34 +142,57 @@ module _ (h : RecordHeader) (b : Lent) (r : Recorded h b)
           (omega (arith, n, f .for-values))
           (omega (arith, n, f .for-counts))
 
-      lengths : LengthsRead (recordWires h) (h .«num_read») (readCells h b ++ evalList) s (length s)
-      lengths = lengths-read _ _ (readCells h b ++ evalList) s (length s) (list .others)
+      lengths : LengthsRead (recordWires h) (h .«num_read») (readCells h b ++ evalList h b) s (length s)
+      lengths = lengths-read _ _ (readCells h b ++ evalList h b) s (length s) (list .others)
 
-      reads : ReadsRead (readCells h b) evalList s (length s)
-      reads = reads-read (readCells h b) evalList s (length s) (lengths .others) (omega (arith, lengths .reads-are, reads-many))
+      reads : ReadsRead (readCells h b) (evalList h b) s (length s)
+      reads = reads-read (readCells h b) (evalList h b) s (length s) (lengths .others) (omega (arith, lengths .reads-are, reads-many))
 
       evals : EvalsRead (h .«num_eval») (evalCells h b) s (length s)
       evals = evals-read (h .«num_eval») (evalCells h b) s (length s) (reads .others) evals-many
 
-      fields : fieldsAnswer s values counts nodes ≡ accepted (declaredIn s ∷ endAt s ∷ [])
-      unfolding readsAt evalsAt
+      declared-told : declaredAnswer (wiresIn s) s (declaredAt s) ≡ accepted (declaredIn s ∷ readListAt s ∷ [])
+      declared-told =
+          let n = head .wires-are in
+          let d = lengths .declared-is in
+          sym
+          (declared-is (wiresIn s) s (declaredAt s) (declaredIn s) (readListAt s)
+          (below-accepted u32 s (declaredAt s) (declaredIn s) (readListAt s) (lengths .declared-read) (omega (arith, d, r .few)))
+          (λ z. omega (arith, d, z, r .some-evals))
+          (omega (arith, d, r .few))
+          (omega (arith, n, d)))
+
+      reads-told : nodesAnswer 0 7 nodes s (readListAt s) ≡ accepted (readsIn s ∷ evalListAt s ∷ [])
+      reads-told =
+          let n = lengths .reads-are in
+          nodes-pass 0 7 nodes (readsIn s) (readCells h b) s (readListAt s) (readsAt s) (evalListAt s) (lengths .reads-read) (reads .stand) reads-in
+          (omega (arith, n, reads-many))
+          (omega (arith, n, f .for-nodes))
+
+      evals-told : nodesAnswer (7 * readsIn s) 11 nodes s (evalListAt s) ≡ accepted (evalsIn s ∷ length s ∷ [])
+      evals-told =
+          let n = lengths .reads-are in
+          let e = evals .evals-are in
+          nodes-pass (7 * readsIn s) 11 nodes (evalsIn s) (evalCells h b) s (evalListAt s) (evalsAt s) (length s) (evals .evals-read) (evals .stand) evals-in
+          (omega (arith, e, evals-many))
+          (omega (arith, n, e, f .for-nodes))
+
+      fields : fieldsAnswer s values counts nodes ≡ accepted (declaredIn s ∷ length s ∷ [])
       fields =
-          fields-pass s values counts nodes _ _ _ _ _ _ (head .answer) (list .answer)
-          (ap (λ (n : ℕ). declaredAnswer n s (declaredAt s)) (head .wires-are)
-          ∙ declared-pass (recordWires h) s (declaredAt s) (lengths .declared-read) (omega (arith, r .some-evals)) (r .few))
-          (nodes-pass 0 7 nodes (h .«num_read») (readCells h b) s (readListAt s) (evalListAt s) (lengths .reads-read) (reads .stand) reads-many (omega (arith, f .for-nodes)) reads-in)
-          (nodes-pass (7 * readsIn s) 11 nodes (h .«num_eval») (evalCells h b) s (evalListAt s) (length s) (evals .evals-read) (evals .stand) evals-many
-          (omega (arith, f .for-nodes, lengths .reads-are))
-          evals-in)
-          (end-pass (readsIn s) (evalsIn s) (declaredIn s) (endAt s) (length s) (omega (arith, r .some-evals, evals .evals-are))
-          (omega (arith, r .few, evals .evals-are, lengths .reads-are))
-          (omega (arith, lengths .declared-is, evals .evals-are, lengths .reads-are))
-          (omega (arith, evals .ends)))
+          let n = lengths .reads-are in
+          let e = evals .evals-are in
+          sym
+          (ends (readsIn s) (evalsIn s) (declaredIn s) (length s) (length s)
+          (λ z. omega (arith, e, z, r .some-evals))
+          (omega (arith, n, e, r .few))
+          (omega (arith, n, e, lengths .declared-is))
+          (omega arith)
+          ∙ fields-end s values counts nodes _ _ (head .answer) _ _ (list .answer) _ _ declared-told _ _ reads-told _ _ evals-told)
 
 -- what the reader finds in the bytes s, for so many value cells, counts and node cells, is the record of h and b
 pub record BytesRead (h : RecordHeader) (b : Lent) (s : List ℕ) (values counts nodes : ℕ) : Type 0 where
-  pub answer : fieldsAnswer s values counts nodes ≡ accepted (declaredIn s ∷ endAt s ∷ [])
-  pub header : headerIn s ≡ headerNumbers h
+  pub answer : fieldsAnswer s values counts nodes ≡ accepted (declaredIn s ∷ length s ∷ [])
+  pub header : headerNumbers h ≡ headerIn s
   pub values-are : valuesIn s ≡ take (2 * recordWires h) (b .values)
   pub counts-are : countsIn s ≡ take (recordWires h) (b .counts)
   pub nodes-are : readCellsIn s ++ evalCellsIn s ≡ take (recordCells h) (b .nodes)
@@ -202,7 +209,7 @@ bytes-read h b r x l c values counts nodes f =
     let es = evals h b r x l c s st values counts nodes f in
     record {
       answer = fields h b r x l c s st values counts nodes f;
-      header = five (hd .ctx-is) (hd .clk-is) (ns .reads-are) (es .evals-are) (hd .id-is);
+      header = header-is s _ _ _ _ _ (hd .ctx-is) (hd .clk-is) (ns .reads-are) (es .evals-are) (hd .id-is);
       values-are = ls .values-are;
       counts-are = ls .counts-are;
       nodes-are =

@@ -11,7 +11,6 @@ use Rattle.record.specs.Numbers.{numberAt, nextAt, after, numbersFrom}
 use Rattle.record.proofs.Places.{after-none, after-more, from-none, from-more}
 
 pub record Loading (s : List ℕ) (at n : ℕ) (old : List ℕ) (from : ℕ) (cells : List ℕ) (next i : ℕ) : Type 0 where
-  pub within : i ≤ n
   pub same : length cells ≡ length old
   pub place : after (n - i) s next ≡ after n s at
   pub stored : sets cells (from + i) (numbersFrom (n - i) s next) ≡ sets old from (numbersFrom n s at)
@@ -20,7 +19,6 @@ module _ (s : List ℕ) (at n : ℕ) (old : List ℕ) (from : ℕ) where
   pub loading-start : Loading s at n old from old at 0
   loading-start =
       record {
-        within = omega arith;
         same = refl;
         place = ap (λ (k : ℕ). after k s at) (sub-zero n);
         stored = ap₂ (λ (j k : ℕ). sets old j (numbersFrom k s at)) (add-zero from) (sub-zero n);
@@ -32,7 +30,6 @@ module _ (s : List ℕ) (at n : ℕ) (old : List ℕ) (from : ℕ) where
         let m : n - i ≡ suc (n - (i + 1)) = omega arith in
         let j : from + (i + 1) ≡ suc (from + i) = omega arith in
         record {
-          within = omega arith;
           same = length-set cells (from + i) v ∙ l .same;
           place = ap (after (n - (i + 1)) s) f ∙ sym (after-more (n - (i + 1)) s next) ∙ ap (λ (k : ℕ). after k s next) (sym m) ∙ l .place;
           stored =

@@ -28,7 +28,7 @@ use Rattle.record.specs.Reading.{
 }
 use Rattle.record.proofs.Ways.{goes-on, stops}
 use Rattle.record.proofs.Heads.{length-is, list-at, list-end}
-use Rattle.record.proofs.Tests.{declared-accepted, nodes-fit, nodes-accepted}
+use Rattle.record.proofs.Tests.{declared-accepted, nodes-of, nodes-accepted}
 
 -- what comes behind the READ nodes, the declared count, the wire list and the head
 abbrev behindReads : List ℕ → ℕ → Told
@@ -46,7 +46,7 @@ behindHead s values counts nodes = orElse (wireListAnswer (wiresIn s) s (wiresAt
 pub reads-fit : (nodes : ℕ) (s : List ℕ) (at reads next : ℕ) → nodesAnswer 0 7 nodes s at ≡ accepted (reads ∷ next ∷ []) → 7 * reads ≤ nodes
 reads-fit nodes s at reads next e =
     let q = nodes-accepted 0 7 nodes s at reads next e .0 in
-    omega (arith, q, nodes-fit 0 7 nodes s at (reads ∷ next ∷ []) e)
+    omega (arith, q, nodes-of 0 7 nodes s at (reads ∷ next ∷ []) e .room)
 
 module _ (s : List ℕ) (values counts nodes : ℕ) where
   pub off-head : (number place : ℕ) → headAnswer s ≡ refused number place → refused number place ≡ fieldsAnswer s values counts nodes

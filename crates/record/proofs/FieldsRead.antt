@@ -5,16 +5,12 @@ use mathlib.Core.Path.{_≡_, refl, sym, ap, _∙_}
 use mathlib.Core.List.{List, [], _∷_, _++_}
 use native.Mathlib.Omega.{arith}
 use lib.ListN.{length}
-use borrow.Author.Tests.{le-ltb, le-leb, eq-eqb, ne-eqb}
 use Rattle.field.specs.Told.{accepted}
 use Rattle.field.specs.Field.{p}
 use Rattle.field.specs.Lists.{each}
 use Rattle.numbers.specs.Answer.{readAnswer}
-use Rattle.numbers.proofs.Below.{below-accepted}
-use Rattle.trace.specs.Counts.{wires}
-use Rattle.trace.specs.Record.{mostRecordWires}
 use Rattle.record.specs.Bytes.{wireNumbers}
-use Rattle.record.specs.Numbers.{numberAt, nextAt, after, numbersFrom, numbersAnswer}
+use Rattle.record.specs.Numbers.{nextAt, after, numbersFrom, numbersAnswer}
 use Rattle.record.specs.Reading.{
   u32,
   ctxIn,
@@ -30,53 +26,49 @@ use Rattle.record.specs.Reading.{
   evalListAt,
   evalsIn,
   evalsAt,
-  endAt,
   headAnswer,
-  wiresAnswer,
   wireListAnswer,
-  declaredAnswer,
   nodesAnswer,
-  endAnswer,
-  fieldsAnswer,
 }
-use Rattle.record.proofs.Sequence.{AllBelow, Stand, read-number, stand-after, stand-from, stand-split-at}
-use Rattle.record.proofs.Ranges.{else-next, numbers-pass}
+use Rattle.record.proofs.Places.{number-is, read-of}
+use Rattle.record.proofs.Bounds.{AllBelow}
+use Rattle.record.proofs.Sequence.{Stand, stand-from, stand-split-at}
+use Rattle.record.proofs.Numbers.{numbers-pass}
 use Rattle.record.proofs.WireList.{wires-length, wires-read}
+use Rattle.record.proofs.Heads.{head-is, list-fits}
+use Rattle.record.proofs.Tests.{nodes-are}
 use Rattle.record.proofs.FieldsFound.{valuesIn, countsIn, readCellsIn, evalCellsIn}
 
 -- ctx, clk, id_next and the wire list's length
 
 pub record HeadRead (ctx clk id n : ℕ) (rest s : List ℕ) (end : ℕ) : Type 0 where
-  pub ctx-is : ctxIn s ≡ ctx
-  pub clk-is : clkIn s ≡ clk
-  pub id-is : idNextIn s ≡ id
-  pub wires-are : wiresIn s ≡ n
+  pub ctx-is : ctx ≡ ctxIn s
+  pub clk-is : clk ≡ clkIn s
+  pub id-is : id ≡ idNextIn s
+  pub wires-are : n ≡ wiresIn s
   pub others : Stand rest s (wiresAt s) end
-  pub answer : headAnswer s ≡ accepted (n ∷ wiresAt s ∷ [])
+  pub answer : headAnswer s ≡ accepted (wiresIn s ∷ wiresAt s ∷ [])
 
 pub head-read : (ctx clk id n : ℕ) (rest s : List ℕ) (end : ℕ) → Stand (ctx ∷ clk ∷ id ∷ n ∷ rest) s 0 end → ctx < u32 → clk < u32 → id < p → HeadRead ctx clk id n rest s end
-unfolding headAnswer ctxIn clkIn idNextIn wiresIn wiresAt after
+unfolding ctxIn clkIn idNextIn wiresIn wiresAt after
 head-read ctx clk id n rest s end h lx ll li =
     let h₁ = h .1 in
     let h₂ = h₁ .1 in
     let h₃ = h₂ .1 in
     record {
-      ctx-is = read-number s 0 ctx (nextAt s 0) (h .0);
-      clk-is = read-number s (after 1 s 0) clk (after 2 s 0) (h₁ .0);
-      id-is = read-number s (after 2 s 0) id (after 3 s 0) (h₂ .0);
-      wires-are = read-number s (after 3 s 0) n (after 4 s 0) (h₃ .0);
+      ctx-is = number-is s 0 ctx (nextAt s 0) (h .0);
+      clk-is = number-is s (after 1 s 0) clk (after 2 s 0) (h₁ .0);
+      id-is = number-is s (after 2 s 0) id (after 3 s 0) (h₂ .0);
+      wires-are = number-is s (after 3 s 0) n (after 4 s 0) (h₃ .0);
       others = h₃ .1;
       answer =
-          else-next _ _ _ (numbers-pass u32 (ctx ∷ clk ∷ []) s 0 (after 2 s 0) (h .0, (h₁ .0, refl)) (lx, (ll, tt)))
-          ∙ else-next _ _ _ (numbers-pass p (id ∷ []) s (after 2 s 0) (after 3 s 0) (h₂ .0, refl) (li, tt))
-          ∙ h₃ .0;
+          sym
+          (head-is s 0 (after 2 s 0) (numbers-pass u32 s (ctx ∷ clk ∷ []) 0 (after 2 s 0) (h .0, (h₁ .0, refl)) (lx, (ll, tt)))
+          0 (after 3 s 0) (numbers-pass p s (id ∷ []) (after 2 s 0) (after 3 s 0) (h₂ .0, refl) (li, tt)))
+          ∙ read-of s (after 3 s 0) (n ∷ after 4 s 0 ∷ []) (h₃ .0);
     }
 
 -- the wire list
-
-list-pass : (n : ℕ) (s : List ℕ) (at values counts : ℕ) → 2 * n ≤ values → n ≤ counts → wireListAnswer n s at values counts ≡ wiresAnswer n s at
-unfolding wireListAnswer
-list-pass n s at values counts h k = rw (le-leb (2 * n) values h, le-leb n counts k)
 
 pub record ListRead (vs cs rest s : List ℕ) (end values counts : ℕ) : Type 0 where
   pub values-are : valuesIn s ≡ vs
@@ -92,48 +84,36 @@ list-read vs cs rest s end values counts h lv lc bv bc rv rc =
     let n = wiresIn s in
     let g = stand-split-at (3 * n) (each (wireNumbers vs cs) n) rest s (wiresAt s) (declaredAt s) end (wires-length vs cs n) refl h in
     let w = wires-read n vs cs s (wiresAt s) (declaredAt s) (g .0) lv lc bv bc in
-    record { values-are = w .values; counts-are = w .counts; others = g .1; answer = list-pass n s (wiresAt s) values counts rv rc ∙ w .answer }
+    record { values-are = w .values; counts-are = w .counts; others = g .1; answer = sym (list-fits n s (wiresAt s) values counts rv rc) ∙ w .answer }
 
 -- the declared count, and the length of the READ list
 
 pub record LengthsRead (n r : ℕ) (rest s : List ℕ) (end : ℕ) : Type 0 where
-  pub declared-read : readAnswer s (declaredAt s) ≡ accepted (n ∷ nextAt s (declaredAt s) ∷ [])
-  pub declared-is : declaredIn s ≡ n
-  pub reads-read : readAnswer s (readListAt s) ≡ accepted (r ∷ nextAt s (readListAt s) ∷ [])
-  pub reads-are : readsIn s ≡ r
+  pub declared-read : readAnswer s (declaredAt s) ≡ accepted (declaredIn s ∷ readListAt s ∷ [])
+  pub declared-is : n ≡ declaredIn s
+  pub reads-read : readAnswer s (readListAt s) ≡ accepted (readsIn s ∷ readsAt s ∷ [])
+  pub reads-are : r ≡ readsIn s
   pub others : Stand rest s (readsAt s) end
 
 pub lengths-read : (n r : ℕ) (rest s : List ℕ) (end : ℕ) → Stand (n ∷ r ∷ rest) s (declaredAt s) end → LengthsRead n r rest s end
 unfolding declaredIn readListAt readsIn readsAt
 lengths-read n r rest s end h =
     record {
-      declared-read = h .0;
-      declared-is = read-number s (declaredAt s) n (nextAt s (declaredAt s)) (h .0);
-      reads-read = h .1 .0;
-      reads-are = read-number s (readListAt s) r (nextAt s (readListAt s)) (h .1 .0);
+      declared-read = read-of s (declaredAt s) _ (h .0);
+      declared-is = number-is s (declaredAt s) n (nextAt s (declaredAt s)) (h .0);
+      reads-read = read-of s (readListAt s) _ (h .1 .0);
+      reads-are = number-is s (readListAt s) r (nextAt s (readListAt s)) (h .1 .0);
       others = h .1 .1;
     }
 
-pub declared-pass : (n : ℕ) (s : List ℕ) (at : ℕ) → readAnswer s at ≡ accepted (n ∷ nextAt s at ∷ []) → 0 < n → n ≤ mostRecordWires
-    → declaredAnswer n s at ≡ accepted (n ∷ nextAt s at ∷ [])
-unfolding declaredAnswer
-declared-pass n s at e some few =
-    let z : (n ≡ 0 → ⊥) = λ q. omega arith in
-    let l : n < u32 = omega arith in
-    else-next _ _ _ (below-accepted u32 s at n (nextAt s at) e l)
-    ∙ rw (read-number s at n (nextAt s at) e, ne-eqb n 0 z, le-ltb mostRecordWires n few, eq-eqb n n refl)
-
 -- a list of nodes
 
-pub nodes-pass : (used width nodes n : ℕ) (xs s : List ℕ) (at end : ℕ) → readAnswer s at ≡ accepted (n ∷ nextAt s at ∷ []) → Stand xs s (nextAt s at) end
-    → length xs ≡ width * n → used + width * n ≤ nodes → AllBelow p xs
-    → nodesAnswer used width nodes s at ≡ accepted (numberAt s at ∷ after (width * numberAt s at) s (nextAt s at) ∷ [])
-unfolding nodesAnswer
-nodes-pass used width nodes n xs s at end e h l room b =
-    let q = read-number s at n (nextAt s at) e in
-    let m : width * numberAt s at ≡ length xs = ap (λ (k : ℕ). width * k) q ∙ sym l in
-    let a = ap (λ (k : ℕ). numbersAnswer p k s (nextAt s at)) m ∙ numbers-pass p xs s (nextAt s at) end h b in
-    rw (e, le-leb (used + width * numberAt s at) nodes (omega arith), a)
+pub nodes-pass : (used width nodes n : ℕ) (xs s : List ℕ) (at cells-at end : ℕ) → readAnswer s at ≡ accepted (n ∷ cells-at ∷ []) → Stand xs s cells-at end → AllBelow p xs
+    → length xs ≡ width * n → used + width * n ≤ nodes → nodesAnswer used width nodes s at ≡ accepted (n ∷ end ∷ [])
+nodes-pass used width nodes n xs s at cells-at end e h b l room =
+    sym
+    (nodes-are used width nodes s at n cells-at e room 0 end
+    (ap (λ (k : ℕ). numbersAnswer p k s cells-at) (sym l) ∙ numbers-pass p s xs cells-at end h b))
 
 pub record ReadsRead (rc rest s : List ℕ) (end : ℕ) : Type 0 where
   pub read-cells-are : readCellsIn s ≡ rc
@@ -151,38 +131,19 @@ reads-read rc rest s end h l =
     }
 
 pub record EvalsRead (e : ℕ) (ec s : List ℕ) (end : ℕ) : Type 0 where
-  pub evals-read : readAnswer s (evalListAt s) ≡ accepted (e ∷ nextAt s (evalListAt s) ∷ [])
-  pub evals-are : evalsIn s ≡ e
+  pub evals-read : readAnswer s (evalListAt s) ≡ accepted (evalsIn s ∷ evalsAt s ∷ [])
+  pub evals-are : e ≡ evalsIn s
   pub eval-cells-are : evalCellsIn s ≡ ec
   pub stand : Stand ec s (evalsAt s) end
-  pub ends : endAt s ≡ end
 
 pub evals-read : (e : ℕ) (ec s : List ℕ) (end : ℕ) → Stand (e ∷ ec) s (evalListAt s) end → length ec ≡ 11 * e → EvalsRead e ec s end
-unfolding evalsIn evalsAt endAt
+unfolding evalsIn evalsAt
 evals-read e ec s end h l =
-    let q = read-number s (evalListAt s) e (nextAt s (evalListAt s)) (h .0) in
+    let q = number-is s (evalListAt s) e (nextAt s (evalListAt s)) (h .0) in
     let m : 11 * evalsIn s ≡ length ec = omega arith in
     record {
-      evals-read = h .0;
+      evals-read = read-of s (evalListAt s) _ (h .0);
       evals-are = q;
       eval-cells-are = ap (λ (k : ℕ). numbersFrom k s (evalsAt s)) m ∙ stand-from ec s (evalsAt s) end (h .1);
       stand = h .1;
-      ends = ap (λ (k : ℕ). after k s (evalsAt s)) m ∙ stand-after ec s (evalsAt s) end (h .1);
     }
-
--- the end
-
-pub end-pass : (reads evals declared end len : ℕ) → 0 < evals → wires reads evals ≤ mostRecordWires → wires reads evals ≡ declared → len ≤ end
-    → endAnswer reads evals declared end len ≡ accepted (declared ∷ end ∷ [])
-unfolding endAnswer
-end-pass reads evals declared end len some few e l =
-    let z : (evals ≡ 0 → ⊥) = λ q. omega arith in
-    rw (ne-eqb evals 0 z, le-ltb mostRecordWires (wires reads evals) few, eq-eqb (wires reads evals) declared e, le-ltb end len l)
-
--- all fields, one after the other
-pub fields-pass : (s : List ℕ) (values counts nodes : ℕ) (ts us ws xs ys vs : List ℕ) → headAnswer s ≡ accepted ts → wireListAnswer (wiresIn s) s (wiresAt s) values counts ≡ accepted us
-    → declaredAnswer (wiresIn s) s (declaredAt s) ≡ accepted ws → nodesAnswer 0 7 nodes s (readListAt s) ≡ accepted xs → nodesAnswer (7 * readsIn s) 11 nodes s (evalListAt s) ≡ accepted ys
-    → endAnswer (readsIn s) (evalsIn s) (declaredIn s) (endAt s) (length s) ≡ accepted vs → fieldsAnswer s values counts nodes ≡ accepted vs
-unfolding fieldsAnswer
-fields-pass s values counts nodes ts us ws xs ys vs p₁ p₂ p₃ p₄ p₅ p₆ =
-    else-next _ _ ts p₁ ∙ else-next _ _ us p₂ ∙ else-next _ _ ws p₃ ∙ else-next _ _ xs p₄ ∙ else-next _ _ ys p₅ ∙ p₆

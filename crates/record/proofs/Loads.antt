@@ -13,6 +13,9 @@ use Rattle.record.specs.Inside.{evalListFrom, nodeCellsFrom, nodesFrom}
 use Rattle.record.proofs.Places.{length-from}
 use Rattle.trace.proofs.Stores.{sets-append}
 
+pub lent-equal : {vs vs′ cs cs′ ns ns′ : List ℕ} → vs ≡ vs′ → cs ≡ cs′ → ns ≡ ns′ → lent vs cs ns ≡ lent vs′ cs′ ns′
+lent-equal p q r = cc
+
 -- both lists of nodes
 module _ (s : List ℕ) (at : ℕ) where
   pub evals-at : (reads next place : ℕ) → reads ≡ numberAt s at → next ≡ nextAt s at → place ≡ after (7 * reads) s next → place ≡ evalListFrom s at
@@ -90,10 +93,7 @@ module _ (s : List ℕ) where
       → lent values counts nodes ≡ recordIn s b
   unfolding recordIn readsIn readsAt evalListAt evalsIn evalsAt
   record-is n at nodes-at b values counts nodes e f g x y z =
-      three
+      lent-equal
       (x ∙ ap₂ (λ (i j : ℕ). sets (b .values) 0 (valuesFrom i s j)) e f)
       (y ∙ ap₂ (λ (i j : ℕ). sets (b .counts) 0 (countsFrom i s j)) e f)
       (z ∙ ap (λ (i : ℕ). sets (b .nodes) 0 (nodesFrom s i)) g)
-    where
-      three : {vs vs′ cs cs′ ns ns′ : List ℕ} → vs ≡ vs′ → cs ≡ cs′ → ns ≡ ns′ → lent vs cs ns ≡ lent vs′ cs′ ns′
-      three p q r = cc

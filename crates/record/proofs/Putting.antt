@@ -1,36 +1,30 @@
 -- Numbers put into bytes one after the other: what stands there then, and that there is room for the next.
 -- Assumes nothing.
-use mathlib.Core.Path.{_≡_, refl, sym, ap, ap₂, _∙_}
+use mathlib.Core.Path.{_≡_, sym, ap, ap₂, _∙_}
 use mathlib.Core.List.{List, [], _∷_, _++_}
 use Prim.Native.Nat.{ℕ, _+_, _≤_, _<_}
 use native.Mathlib.Omega.{arith}
 use lib.ListN.{length, getD, take, drop}
 use lib.Seq.{sets, length-sets}
 use Rattle.field.specs.Lists.{each}
-use Rattle.field.specs.Told.{Told, accepted, refused}
+use Rattle.field.specs.Told.{accepted, refused}
 use Rattle.field.proofs.Each.{each-none}
 use Rattle.trace.proofs.Stores.{sets-append}
 use Rattle.numbers.specs.Form.{bytesOf, widthOf}
 use Rattle.numbers.specs.Answer.{writeAnswer}
 use Rattle.numbers.proofs.Writing.{room-answer}
 use Rattle.record.specs.Bytes.{bytesOfAll, wireNumbers}
-use Rattle.record.proofs.Widths.{taken, taken-none, taken-more, taken-append, bytes-one, bytes-append, cells-next, cells-taken, cells-within, wires-next, wires-within}
+use Rattle.record.specs.Numbers.{numberTold}
+use Rattle.record.proofs.Ways.{clash}
+use Rattle.record.proofs.Widths.{taken, taken-none, taken-more, taken-append, bytes-none, bytes-one, bytes-append, cells-next, cells-taken, cells-within, wires-next, wires-within}
 
 -- `put` where there is room
-abbrev first : Told → ℕ
-first (accepted []) = 0
-first (accepted (v ∷ vs)) = v
-first (refused number place) = 0
-
-clash : (number place : ℕ) (vs : List ℕ) → refused number place ≡ accepted vs → ⊥
-clash number place vs e = let z : _≡_ {A = ℕ} 0 1 = cc in absurd (omega arith)
-
 module _ (v : ℕ) (out : List ℕ) (at : ℕ) (h : at + widthOf v ≤ length out) where
   pub put-refused : (number place : ℕ) → refused number place ≡ writeAnswer v out at → ⊥
-  put-refused number place e = clash number place _ (e ∙ room-answer v out at h)
+  put-refused number place e = clash (e ∙ room-answer v out at h)
 
   pub put-next : (next : ℕ) → accepted (next ∷ []) ≡ writeAnswer v out at → next ≡ at + widthOf v
-  put-next next e = ap first (e ∙ room-answer v out at h)
+  put-next next e = ap numberTold (e ∙ room-answer v out at h)
 
 -- with the numbers vs put into old from at on, out is left, and next is the place after them
 pub record Wrote (old : List ℕ) (at : ℕ) (vs out : List ℕ) (next : ℕ) : Type 0 where
@@ -41,8 +35,7 @@ pub wrote : (old : List ℕ) (at : ℕ) (vs out : List ℕ) (next : ℕ) → nex
 wrote old at vs out next e q = record { place = e; bytes = q }
 
 pub wrote-none : (old : List ℕ) (at : ℕ) → Wrote old at [] old at
-unfolding bytesOfAll
-wrote-none old at = record { place = omega (arith, taken-none); bytes = refl }
+wrote-none old at = record { place = omega (arith, taken-none); bytes = ap (λ (l : List ℕ). sets old at l) (sym bytes-none) }
 
 pub wrote-one : (old : List ℕ) (at v : ℕ) (out : List ℕ) (next : ℕ) → next ≡ at + widthOf v → out ≡ sets old at (bytesOf v) → Wrote old at (v ∷ []) out next
 wrote-one old at v out next e q =

@@ -5,7 +5,7 @@ use mathlib.Core.Path.{_≡_, refl, sym, ap, _∙_, subst}
 use mathlib.Core.List.{List, [], _∷_, _++_}
 use lib.ListN.{length, getD, take, drop}
 use lib.Seq.{sets, length-take-le, take-at, drop-at}
-use Rattle.field.specs.Told.{Told, accepted, changed}
+use Rattle.field.specs.Told.{accepted}
 use Rattle.trace.specs.declared.CircuitEvaluation.{CircuitEvaluation}
 use Rattle.trace.specs.declared.RecordHeader.{RecordHeader}
 use Rattle.trace.specs.Outcome.{Lent}
@@ -15,8 +15,9 @@ use Rattle.trace.proofs.Tests.{Fits}
 use Rattle.trace.proofs.Records.{Recorded, finalized-of}
 use Rattle.record.specs.Bytes.{recordBytes, writeIntoAnswer, writtenInto, writeStateAnswer, writtenState}
 use Rattle.record.specs.Reading.{readFromAnswer, readBuffers}
-use Rattle.record.proofs.Ranges.{else-next}
-use Rattle.record.proofs.FieldsFound.{record-in, after-reading}
+use Rattle.record.proofs.FieldsFound.{record-in}
+use Rattle.record.proofs.Standing.{header-answered, leaves}
+use Rattle.record.proofs.RecordWriting.{write-left, state-left}
 use Rattle.record.proofs.Used.{front-set}
 use Rattle.record.proofs.Writer.{written-of}
 use Rattle.record.proofs.BytesRead.{BytesRead, bytes-read}
@@ -35,14 +36,13 @@ filled n vs l m e h k = ap (sets m 0) e ∙ front-set n (take n l) m (length-tak
 
 answered : (h : RecordHeader) (b : Lent) (s : List ℕ) (b′ : Lent) → BytesRead h b s (length (b′ .values)) (length (b′ .counts)) (length (b′ .nodes))
     → readFromAnswer s b′ ≡ accepted (headerNumbers h)
-unfolding readFromAnswer
-answered h b s b′ g = else-next _ _ _ (g .answer) ∙ ap accepted (g .header)
+answered h b s b′ g = sym (header-answered s b′ _ (g .answer)) ∙ ap accepted (sym (g .header))
 
 read-to : (h : RecordHeader) (b : Lent) (s : List ℕ) (b′ : Lent) → Recorded h b → Fits (h .«num_read») (h .«num_eval») (length (b′ .values)) (length (b′ .counts)) (length (b′ .nodes))
     → BytesRead h b s (length (b′ .values)) (length (b′ .counts)) (length (b′ .nodes)) → ReadTo h b s b′
 read-to h b s b′ r f g =
     let a = answered h b s b′ g in
-    let e = after-reading s b′ (headerNumbers h) a ∙ record-in s b′ in
+    let e = sym (leaves s b′ (accepted (headerNumbers h)) (sym a)) ∙ record-in s b′ in
     record {
       answer = a;
       values = ap (λ (x : Lent). x .values) e ∙ filled (2 * recordWires h) _ (b .values) (b′ .values) (g .values-are) (r .fits .for-values) (f .for-values);
@@ -83,5 +83,4 @@ pub state-reads-back : (s : CircuitEvaluation) (b : Lent) (out vs : List ℕ) �
 unfolding writeStateAnswer
 state-reads-back s b out vs e x l c =
     let f = finalized-of s (writeIntoAnswer (headerOf s) b out) vs e in
-    let new = sets out 0 (recordBytes (headerOf s) b) in
-    (ap (λ (t : Told). changed t new out) (e ∙ sym (f .2)), reads-back (headerOf s) b out vs (f .2) x l c)
+    (sym (state-left s b out (accepted vs) (sym e)) ∙ write-left (headerOf s) b out (accepted vs) (sym (f .2)), reads-back (headerOf s) b out vs (f .2) x l c)

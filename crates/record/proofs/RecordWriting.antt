@@ -32,9 +32,9 @@ unfolding ofBytes
 bytes-over bytes out h = rw (lt-leb (length bytes) (length out) h)
 
 module _ (h : RecordHeader) (b : Lent) (out : List ℕ) where
-  -- "a refusal changes nothing"
-  pub write-kept : (number place : ℕ) → refused number place ≡ writeIntoAnswer h b out → out ≡ writtenInto h b out
-  write-kept number place e = ap (λ (t : Told). changed t (sets out 0 (recordBytes h b)) out) e
+  -- what is left after an answer
+  pub write-left : (t : Told) → t ≡ writeIntoAnswer h b out → changed t (sets out 0 (recordBytes h b)) out ≡ writtenInto h b out
+  write-left t e = ap (λ (x : Told). changed x (sets out 0 (recordBytes h b)) out) e
 
   pub write-stops : (number place : ℕ) → refused number place ≡ ofRecord h b (accepted []) → refused number place ≡ writeIntoAnswer h b out
   unfolding writeIntoAnswer
@@ -53,11 +53,11 @@ module _ (h : RecordHeader) (b : Lent) (out : List ℕ) where
       write-goes = ap (λ (n : ℕ). accepted (n ∷ [])) e ∙ sym (bytes-fit (recordBytes h b) out (rw (sym e) l)) ∙ goes
 
       pub write-leaves : (left : List ℕ) → left ≡ sets out 0 (recordBytes h b) → left ≡ writtenInto h b out
-      write-leaves left q = q ∙ ap (λ (t : Told). changed t (sets out 0 (recordBytes h b)) out) write-goes
+      write-leaves left q = q ∙ write-left (accepted (width ∷ [])) write-goes
 
 module _ (s : CircuitEvaluation) (b : Lent) (out : List ℕ) where
-  pub state-kept : (number place : ℕ) → refused number place ≡ writeStateAnswer s b out → out ≡ writtenState s b out
-  state-kept number place e = ap (λ (t : Told). changed t (sets out 0 (recordBytes (headerOf s) b)) out) e
+  pub state-left : (t : Told) → t ≡ writeStateAnswer s b out → changed t (sets out 0 (recordBytes (headerOf s) b)) out ≡ writtenState s b out
+  state-left t e = ap (λ (x : Told). changed x (sets out 0 (recordBytes (headerOf s) b)) out) e
 
   pub state-stops : (number place : ℕ) → refused number place ≡ finalizedAnswer s → refused number place ≡ writeStateAnswer s b out
   unfolding writeStateAnswer

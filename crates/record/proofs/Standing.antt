@@ -3,58 +3,27 @@
 use Prim.Native.Nat.{ℕ, _*_, _≤_}
 use mathlib.Core.Path.{_≡_, sym, ap, subst}
 use mathlib.Core.List.{List}
+use native.Mathlib.Omega.{arith}
 use lib.ListN.{length}
 use Rattle.field.specs.Told.{Told, accepted, refused}
 use Rattle.trace.specs.Outcome.{Lent}
-use Rattle.record.specs.Numbers.{nextAt, after, numbersAnswer}
-use Rattle.record.specs.Reading.{
-  u32,
-  ctxIn,
-  clkIn,
-  wiresIn,
-  wiresAt,
-  declaredAt,
-  declaredIn,
-  readListAt,
-  readsIn,
-  evalListAt,
-  evalsIn,
-  endAt,
-  headAnswer,
-  wireListAnswer,
-  declaredAnswer,
-  nodesAnswer,
-  fieldsAnswer,
-  headerIn,
-  readFromAnswer,
-  recordIn,
-  buffersRead,
-  readBuffers,
-}
+use Rattle.record.specs.Reading.{wiresIn, wiresAt, fieldsAnswer, headerIn, readFromAnswer, buffersRead, readBuffers}
 use Rattle.record.specs.Inside.{Wires, Found}
-use Rattle.record.proofs.Ways.{goes-on, stops, passed}
-use Rattle.record.proofs.Numbers.{first-below, rest-accepted}
-use Rattle.record.proofs.Heads.{list-accepted}
-use Rattle.record.proofs.Tests.{nodes-fit, end-few}
+use Rattle.record.proofs.Ways.{goes-on, stops}
+use Rattle.record.proofs.WireList.{found-accepted}
+use Rattle.record.proofs.FieldsFound.{fields-of}
 
 pub stands : (s : List ℕ) (values counts nodes : ℕ) (vs : List ℕ) → fieldsAnswer s values counts nodes ≡ accepted vs → Found s values counts nodes
-unfolding fieldsAnswer headAnswer ctxIn clkIn evalsIn after
 stands s values counts nodes vs e =
-    let a = passed (headAnswer s) _ vs e in
-    let h = passed (numbersAnswer u32 2 s 0) _ (a .values) (a .first) in
-    let b = passed (wireListAnswer (wiresIn s) s (wiresAt s) values counts) _ vs (a .then) in
-    let l = list-accepted (wiresIn s) s (wiresAt s) values counts (b .values) (b .first) .0 in
-    let d = passed (declaredAnswer (wiresIn s) s (declaredAt s)) _ vs (b .then) in
-    let r = passed (nodesAnswer 0 7 nodes s (readListAt s)) _ vs (d .then) in
-    let x = passed (nodesAnswer (7 * readsIn s) 11 nodes s (evalListAt s)) _ vs (r .then) in
+    let a = fields-of s values counts nodes vs e in
     record {
-      ctx-fits = first-below u32 s 1 0 (h .values) (h .first);
-      clk-fits = first-below u32 s 0 (nextAt s 0) (h .values) (rest-accepted u32 s 1 0 (h .values) (h .first));
-      room-values = l .room-values;
-      room-counts = l .room-counts;
-      wires-stand = l .stand;
-      room-nodes = nodes-fit (7 * readsIn s) 11 nodes s (evalListAt s) (x .values) (x .first);
-      few = end-few (readsIn s) (evalsIn s) (declaredIn s) (endAt s) (length s) vs (x .then);
+      ctx-fits = a .ctx-below;
+      clk-fits = a .clk-below;
+      room-values = a .room-values;
+      room-counts = a .room-counts;
+      wires-stand = found-accepted (wiresIn s) s (wiresAt s) (a .list);
+      room-nodes = a .room-nodes;
+      few = omega (arith, a .few, a .of-nodes);
     }
 
 -- what is known of its wires, once their number and place are read
@@ -70,16 +39,14 @@ module _ (s : List ℕ) (b : Lent) where
   abbrev looked : Told
   looked = fieldsAnswer s (length (b .values)) (length (b .counts)) (length (b .nodes))
 
-  pub answers-refusal : (number place : ℕ) → looked ≡ refused number place → refused number place ≡ readFromAnswer s b
+  pub refusal-answered : (number place : ℕ) → looked ≡ refused number place → refused number place ≡ readFromAnswer s b
   unfolding readFromAnswer
-  answers-refusal n k e = sym (stops _ (accepted (headerIn s)) n k e)
+  refusal-answered n k e = sym (stops _ (accepted (headerIn s)) n k e)
 
-  pub answers-header : (vs : List ℕ) → looked ≡ accepted vs → accepted (headerIn s) ≡ readFromAnswer s b
+  pub header-answered : (vs : List ℕ) → looked ≡ accepted vs → accepted (headerIn s) ≡ readFromAnswer s b
   unfolding readFromAnswer
-  answers-header vs e = sym (goes-on _ (accepted (headerIn s)) vs e)
+  header-answered vs e = sym (goes-on _ (accepted (headerIn s)) vs e)
 
-  pub leaves-all : (number place : ℕ) → looked ≡ refused number place → b ≡ readBuffers s b
-  leaves-all n k e = ap (λ (t : Told). buffersRead t s b) (answers-refusal n k e)
-
-  pub leaves-record : (vs : List ℕ) → looked ≡ accepted vs → recordIn s b ≡ readBuffers s b
-  leaves-record vs e = ap (λ (t : Told). buffersRead t s b) (answers-header vs e)
+  -- what is left after an answer
+  pub leaves : (t : Told) → t ≡ readFromAnswer s b → buffersRead t s b ≡ readBuffers s b
+  leaves t e = ap (λ (x : Told). buffersRead x s b) e

@@ -7,7 +7,7 @@ use mathlib.Core.List.{List, [], _∷_}
 use native.Mathlib.Nat.{mul-comm, le-div-iff-mul-le, div-lt-iff-lt-mul}
 use native.Mathlib.Omega.{arith}
 use lib.Dec.{ltb, leb, eqb}
-use borrow.Author.Tests.{leb-true, ltb-false, lt-ltb, le-ltb, le-leb, lt-leb, eq-eqb, ne-eqb}
+use borrow.Author.Tests.{leb-true, ltb-false, eqb-true, eqb-false, lt-ltb, le-ltb, le-leb, lt-leb, eq-eqb, ne-eqb}
 use Rattle.field.specs.Told.{Told, accepted, refused, orElse}
 use Rattle.field.specs.Field.{p}
 use Rattle.numbers.specs.Answer.{readAnswer, readBelowAnswer}
@@ -18,8 +18,8 @@ use Rattle.trace.proofs.Choices.{passes, not-stopped}
 use Rattle.record.specs.Numbers.{numberAt, nextAt, after, numbersAnswer}
 use Rattle.record.specs.Reading.{u32, withinRoom, declaredAnswer, nodesAnswer, endAnswer}
 use Rattle.record.proofs.Ways.{values-are, goes-on, stops, passed}
-use Rattle.record.proofs.Places.{number-is, next-is}
-use Rattle.record.proofs.Numbers.{place-after}
+use Rattle.record.proofs.Places.{number-is, next-is, read-of, below-of}
+use Rattle.record.proofs.Numbers.{FoundBelow, numbers-of, place-after}
 
 -- the tests of the declared count, once it is read
 abbrev countTests : ℕ → ℕ → ℕ → Told
@@ -28,6 +28,13 @@ countTests n d next =
     (cond (ltb mostRecordWires d) (refused 19 0)
     (cond (eqb n d) (accepted (d ∷ next ∷ []))
     (refused 20 0)))
+
+-- a declared count that is accepted, behind a list of n wires
+pub record Declared (n : ℕ) (s : List ℕ) (at : ℕ) (vs : List ℕ) : Type 0 where
+  pub read : readAnswer s at ≡ accepted (numberAt s at ∷ nextAt s at ∷ [])
+  pub few : numberAt s at ≤ mostRecordWires
+  pub same : n ≡ numberAt s at
+  pub answer : accepted (numberAt s at ∷ nextAt s at ∷ []) ≡ accepted vs
 
 module _ (n : ℕ) (s : List ℕ) (at : ℕ) where
   pub count-off : (number place : ℕ) → readBelowAnswer u32 s at ≡ refused number place → refused number place ≡ declaredAnswer n s at
@@ -54,16 +61,17 @@ module _ (n : ℕ) (s : List ℕ) (at : ℕ) where
     pub declared-is : (d ≡ 0 → ⊥) → d ≤ mostRecordWires → n ≡ d → accepted (d ∷ next ∷ []) ≡ declaredAnswer n s at
     declared-is z h o = sym (rw (ne-eqb d 0 z, le-ltb mostRecordWires d h, eq-eqb n d o)) ∙ counted
 
-  declared-known : (vs : List ℕ) → declaredAnswer n s at ≡ accepted vs → accepted (numberAt s at ∷ nextAt s at ∷ []) ≡ accepted vs
+  pub declared-of : (vs : List ℕ) → declaredAnswer n s at ≡ accepted vs → Declared n s at vs
   unfolding declaredAnswer
-  declared-known vs e =
+  declared-of vs e =
       let a = passed (readBelowAnswer u32 s at) (countTests n (numberAt s at) (nextAt s at)) vs e in
       let b = not-stopped (eqb (numberAt s at) 0) _ 18 0 vs (a .then) in
       let c = not-stopped (ltb mostRecordWires (numberAt s at)) _ 19 0 vs (b .1) in
-      passes (eqb n (numberAt s at)) _ 20 0 vs (c .1) .1
+      let d = passes (eqb n (numberAt s at)) _ 20 0 vs (c .1) in
+      record { read = below-of s at u32 (a .values) (a .first) .0; few = ltb-false _ _ (c .0); same = eqb-true _ _ (d .0); answer = d .1 }
 
   pub declared-accepted : (d next : ℕ) → declaredAnswer n s at ≡ accepted (d ∷ next ∷ []) → (d ≡ numberAt s at) × (next ≡ nextAt s at)
-  declared-accepted d next e = values-are _ _ d next (declared-known (d ∷ next ∷ []) e)
+  declared-accepted d next e = values-are _ _ d next (declared-of (d ∷ next ∷ []) e .answer)
 
 -- the look at a list of nodes, once its length is read
 abbrev cellTests : ℕ → ℕ → ℕ → List ℕ → ℕ → ℕ → Told
@@ -81,6 +89,13 @@ no-node-room : (used width nodes len : ℕ) → used ≤ nodes → 0 < width →
 no-node-room used width nodes len u w h =
     let q : nodes - used < len * width = div-lt-iff-lt-mul {k = width} {x = nodes - used} {y = len} w .0 h in
     omega (arith, q, mul-comm width len)
+
+-- a list of nodes that is accepted has room, and ends where its cells end
+pub record Nodes (used width nodes : ℕ) (s : List ℕ) (at : ℕ) (vs : List ℕ) : Type 0 where
+  pub read : readAnswer s at ≡ accepted (numberAt s at ∷ nextAt s at ∷ [])
+  pub room : used + width * numberAt s at ≤ nodes
+  pub cells : FoundBelow p (width * numberAt s at) s (nextAt s at)
+  pub answer : accepted (numberAt s at ∷ after (width * numberAt s at) s (nextAt s at) ∷ []) ≡ accepted vs
 
 module _ (used width nodes : ℕ) (s : List ℕ) (at : ℕ) where
   pub len-off : (number place : ℕ) → readAnswer s at ≡ refused number place → refused number place ≡ nodesAnswer used width nodes s at
@@ -110,21 +125,21 @@ module _ (used width nodes : ℕ) (s : List ℕ) (at : ℕ) where
           ∙ sym (goes-on _ (accepted (len ∷ after (width * len) s cells-at ∷ [])) (v ∷ next ∷ []) f)
           ∙ cells-first
 
-  nodes-known : (vs : List ℕ) → nodesAnswer used width nodes s at ≡ accepted vs
-      → (used + width * numberAt s at ≤ nodes) × (accepted (numberAt s at ∷ after (width * numberAt s at) s (nextAt s at) ∷ []) ≡ accepted vs)
+  pub nodes-of : (vs : List ℕ) → nodesAnswer used width nodes s at ≡ accepted vs → Nodes used width nodes s at vs
   unfolding nodesAnswer
-  nodes-known vs e =
+  nodes-of vs e =
       let a = passed (readAnswer s at) (cellTests used width nodes s (numberAt s at) (nextAt s at)) vs e in
       let b = passes (leb (used + width * numberAt s at) nodes) _ 24 0 vs (a .then) in
       let d = passed (numbersAnswer p (width * numberAt s at) s (nextAt s at)) (accepted (numberAt s at ∷ after (width * numberAt s at) s (nextAt s at) ∷ [])) vs (b .1) in
-      (leb-true _ _ (b .0), d .then)
-
-  -- nodes that are accepted have room, and end where their cells end
-  pub nodes-fit : (vs : List ℕ) → nodesAnswer used width nodes s at ≡ accepted vs → used + width * numberAt s at ≤ nodes
-  nodes-fit vs e = nodes-known vs e .0
+      record {
+        read = read-of s at (a .values) (a .first);
+        room = leb-true _ _ (b .0);
+        cells = numbers-of p s (width * numberAt s at) (nextAt s at) (d .values) (d .first);
+        answer = d .then;
+      }
 
   pub nodes-accepted : (len next : ℕ) → nodesAnswer used width nodes s at ≡ accepted (len ∷ next ∷ []) → (len ≡ numberAt s at) × (next ≡ after (width * numberAt s at) s (nextAt s at))
-  nodes-accepted len next e = values-are _ _ len next (nodes-known (len ∷ next ∷ []) e .1)
+  nodes-accepted len next e = values-are _ _ len next (nodes-of (len ∷ next ∷ []) e .answer)
 
 module _ (reads evals declared end len : ℕ) where
   pub no-evals : evals ≡ 0 → refused 21 0 ≡ endAnswer reads evals declared end len
@@ -149,8 +164,12 @@ module _ (reads evals declared end len : ℕ) where
       unfolding endAnswer
       ends o h = rw (ne-eqb evals 0 some, le-ltb mostRecordWires (wires reads evals) few, eq-eqb (wires reads evals) declared o, le-ltb end len h)
 
-  pub end-few : (vs : List ℕ) → endAnswer reads evals declared end len ≡ accepted vs → wires reads evals ≤ mostRecordWires
+  pub end-of : (vs : List ℕ) → endAnswer reads evals declared end len ≡ accepted vs → (0 < evals) × (wires reads evals ≡ declared) × (len ≤ end)
   unfolding endAnswer
-  end-few vs e =
+  end-of vs e =
       let a = not-stopped (eqb evals 0) _ 21 0 vs e in
-      ltb-false _ _ (not-stopped (ltb mostRecordWires (wires reads evals)) _ 19 0 vs (a .1) .0)
+      let b = not-stopped (ltb mostRecordWires (wires reads evals)) _ 19 0 vs (a .1) in
+      let c = passes (eqb (wires reads evals) declared) _ 22 0 vs (b .1) in
+      let d = not-stopped (ltb end len) _ 23 0 vs (c .1) in
+      let z : (evals ≡ 0 → ⊥) = eqb-false evals 0 (a .0) in
+      (omega arith, eqb-true _ _ (c .0), ltb-false _ _ (d .0))

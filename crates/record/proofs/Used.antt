@@ -69,6 +69,3 @@ front-set n vs l e h =
 
 pub front-taken : (n : ℕ) (vs l : List ℕ) → length vs ≡ n → n ≤ length l → take n (sets l 0 vs) ≡ vs
 front-taken n vs l e h = ap (take n) (front-set n vs l e h) ∙ take-at vs (drop n l) n e
-
-pub lent-equal : {vs cs ns vs′ cs′ ns′ : List ℕ} → vs ≡ vs′ → cs ≡ cs′ → ns ≡ ns′ → lent vs cs ns ≡ lent vs′ cs′ ns′
-lent-equal e f g = rw (e, f, g)

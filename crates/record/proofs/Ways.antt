@@ -12,6 +12,13 @@ use Rattle.numbers.specs.declared.ReadAnswer.{ReadAnswer}
 pub heard : {r x : ReadAnswer} {t : Told} → readTold r ≡ t → r ≡ x → t ≡ readTold x
 heard e f = sym e ∙ ap readTold f
 
+-- what it tells, and that a refusal is no acceptance
+pub told : {vs ws : List ℕ} → accepted vs ≡ accepted ws → vs ≡ ws
+told e = cc
+
+pub clash : {A : Type 0} {number place : ℕ} {vs : List ℕ} → refused number place ≡ accepted vs → A
+clash e = let z : _≡_ {A = ℕ} 0 1 = cc in absurd (omega arith)
+
 pub values-are : (v next w place : ℕ) → accepted (v ∷ next ∷ []) ≡ accepted (w ∷ place ∷ []) → (w ≡ v) × (place ≡ next)
 values-are v next w place e = (cc, cc)
 
@@ -29,4 +36,4 @@ pub record Passed (t u : Told) (vs : List ℕ) : Type 0 where
 
 pub passed : (t u : Told) (vs : List ℕ) → orElse t u ≡ accepted vs → Passed t u vs
 passed (accepted ws) u vs e = record { values = ws; first = refl; then = e }
-passed (refused n k) u vs e = let z : _≡_ {A = ℕ} 0 1 = cc in absurd (omega arith)
+passed (refused n k) u vs e = clash e

@@ -1,4 +1,4 @@
--- How many bytes numbers take, one after the other.
+-- The bytes of numbers, one after the other, and how many they are.
 -- Assumes nothing.
 use mathlib.Core.Path.{_≡_, refl, sym, ap, _∙_}
 use mathlib.Core.List.{List, [], _∷_, _++_, append-assoc, append-nil}
@@ -18,9 +18,16 @@ use Rattle.record.specs.Bytes.{bytesOfAll, wireNumbers}
 abbrev pub taken : List ℕ → ℕ
 taken vs = length (bytesOfAll vs)
 
-pub taken-none : taken [] ≡ 0
+pub bytes-none : bytesOfAll [] ≡ []
 unfolding bytesOfAll
-taken-none = refl
+bytes-none = refl
+
+pub bytes-more : (v : ℕ) (vs : List ℕ) → bytesOfAll (v ∷ vs) ≡ bytesOf v ++ bytesOfAll vs
+unfolding bytesOfAll
+bytes-more v vs = refl
+
+pub taken-none : taken [] ≡ 0
+taken-none = ap length bytes-none
 
 pub bytes-one : (v : ℕ) → bytesOfAll (v ∷ []) ≡ bytesOf v
 unfolding bytesOfAll
@@ -32,8 +39,7 @@ bytes-append [] ws = refl
 bytes-append (v ∷ vs) ws = ap (λ (l : List ℕ). bytesOf v ++ l) (bytes-append vs ws) ∙ sym (append-assoc (bytesOf v) (bytesOfAll vs) (bytesOfAll ws))
 
 pub taken-more : (v : ℕ) (vs : List ℕ) → taken (v ∷ vs) ≡ widthOf v + taken vs
-unfolding bytesOfAll
-taken-more v vs = length-append (bytesOf v) (bytesOfAll vs) ∙ ap (λ (n : ℕ). n + taken vs) (width-counts v)
+taken-more v vs = ap length (bytes-more v vs) ∙ length-append (bytesOf v) (bytesOfAll vs) ∙ ap (λ (n : ℕ). n + taken vs) (width-counts v)
 
 -- what a width comes to at most
 pub narrow : (r v : ℕ) → r ≡ widthOf v → r ≤ 10

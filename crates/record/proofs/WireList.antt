@@ -6,15 +6,20 @@ use mathlib.Core.List.{List, [], _∷_, _++_, append-assoc, append-nil}
 use native.Mathlib.Omega.{arith}
 use lib.ListN.{length, getD, take}
 use lib.Seq.{getD-take}
-use Rattle.field.specs.Told.{accepted, orElse}
+use Rattle.field.specs.Told.{accepted}
 use Rattle.field.specs.Field.{p}
 use Rattle.field.specs.Lists.{each}
 use Rattle.field.proofs.Each.{each-none, each-more, each-equal, each-length}
 use Rattle.record.specs.Bytes.{wireNumbers}
 use Rattle.record.specs.Numbers.{numberAt, nextAt, after, numbersFrom}
 use Rattle.record.specs.Reading.{u32, wireAnswer, wiresAnswer, valuesFrom, countsFrom}
-use Rattle.record.proofs.Sequence.{AllBelow, Stand, read-number, after-none, from-none, stand-join, stand-split-at}
-use Rattle.record.proofs.Ranges.{else-both, else-next, numbers-of, numbers-pass}
+use Rattle.record.specs.Inside.{Wires}
+use Rattle.record.proofs.Ways.{passed}
+use Rattle.record.proofs.Places.{number-is, after-none, after-two, from-none}
+use Rattle.record.proofs.Bounds.{AllBelow}
+use Rattle.record.proofs.Sequence.{Stand, stand-join, stand-split-at}
+use Rattle.record.proofs.Numbers.{numbers-of, numbers-pass}
+use Rattle.record.proofs.Wires.{wires-none, wires-more, wire-on, counted}
 
 -- the numbers of wires
 
@@ -31,7 +36,7 @@ each-front f (suc n) =
     ∙ ap (λ (l : List ℕ). f 0 ++ l) (sym (each-more (λ (k : ℕ). f (suc k)) n))
 
 -- the first wire's, then the others'
-pub wires-cons : (a b c : ℕ) (vs cs : List ℕ) (n : ℕ) → each (wireNumbers (a ∷ b ∷ vs) (c ∷ cs)) (suc n) ≡ a ∷ b ∷ c ∷ each (wireNumbers vs cs) n
+wires-cons : (a b c : ℕ) (vs cs : List ℕ) (n : ℕ) → each (wireNumbers (a ∷ b ∷ vs) (c ∷ cs)) (suc n) ≡ a ∷ b ∷ c ∷ each (wireNumbers vs cs) n
 wires-cons a b c vs cs n =
     each-front (wireNumbers (a ∷ b ∷ vs) (c ∷ cs)) n
     ∙ ap (λ (l : List ℕ). a ∷ b ∷ c ∷ l) (each-equal (λ (k : ℕ). wireNumbers (a ∷ b ∷ vs) (c ∷ cs) (suc k)) (wireNumbers vs cs) n (λ k l. shifted k))
@@ -54,9 +59,17 @@ wires-used vs cs n =
 
 -- values and counts from bytes
 
+pub values-none : (s : List ℕ) (at : ℕ) → valuesFrom 0 s at ≡ []
+unfolding valuesFrom
+values-none s at = refl
+
 pub values-more : (n : ℕ) (s : List ℕ) (at : ℕ) → valuesFrom (suc n) s at ≡ numberAt s at ∷ numberAt s (nextAt s at) ∷ valuesFrom n s (after 3 s at)
 unfolding valuesFrom numbersFrom
 values-more n s at = refl
+
+pub counts-none : (s : List ℕ) (at : ℕ) → countsFrom 0 s at ≡ []
+unfolding countsFrom
+counts-none s at = refl
 
 pub counts-more : (n : ℕ) (s : List ℕ) (at : ℕ) → countsFrom (suc n) s at ≡ numberAt s (after 2 s at) ∷ countsFrom n s (after 3 s at)
 unfolding countsFrom
@@ -72,12 +85,8 @@ unfolding countsFrom
 counts-length zero s at = refl
 counts-length (suc n) s at = ap suc (counts-length n s (after 3 s at))
 
-after-2 : (s : List ℕ) (at : ℕ) → after 2 s at ≡ nextAt s (nextAt s at)
-unfolding after
-after-2 s at = refl
-
 -- the place after a wire's three numbers
-after-wire : (n : ℕ) (s : List ℕ) (at : ℕ) → after (3 * suc n) s at ≡ after (3 * n) s (after 3 s at)
+pub after-wire : (n : ℕ) (s : List ℕ) (at : ℕ) → after (3 * suc n) s at ≡ after (3 * n) s (after 3 s at)
 unfolding after
 after-wire n s at = let e : 3 * suc n ≡ suc (suc (suc (3 * n))) = omega arith in ap (λ (k : ℕ). after k s at) e
 
@@ -104,14 +113,6 @@ wires-are-numbers (suc n) s at =
 
 -- what the answers say of wires, both ways
 
-wires-none : (s : List ℕ) (at : ℕ) → wiresAnswer 0 s at ≡ accepted (0 ∷ at ∷ [])
-unfolding wiresAnswer
-wires-none s at = refl
-
-wires-more : (n : ℕ) (s : List ℕ) (at : ℕ) → wiresAnswer (suc n) s at ≡ orElse (wireAnswer s at) (wiresAnswer n s (after 3 s at))
-unfolding wiresAnswer
-wires-more n s at = refl
-
 -- the three numbers of a wire, two elements and a count, stand from a place on
 record WireStands (a b c : ℕ) (s : List ℕ) (at : ℕ) : Type 0 where
   stand : Stand (a ∷ b ∷ c ∷ []) s at (after 3 s at)
@@ -122,17 +123,17 @@ record WireStands (a b c : ℕ) (s : List ℕ) (at : ℕ) : Type 0 where
 wire-of : (s : List ℕ) (at : ℕ) (vs : List ℕ) → wireAnswer s at ≡ accepted vs → WireStands (numberAt s at) (numberAt s (nextAt s at)) (numberAt s (after 2 s at)) s at
 unfolding wireAnswer after numbersFrom
 wire-of s at vs e =
-    let b = else-both _ _ vs e in
-    let f = numbers-of p 2 s at (b .0) (b .1) in
-    let g = numbers-of u32 1 s (after 2 s at) vs (b .2) in
+    let a = passed _ _ vs e in
+    let f = numbers-of p s 2 at (a .values) (a .first) in
+    let g = numbers-of u32 s 1 (after 2 s at) vs (a .then) in
     record { stand = (f .0 .0, (f .0 .1 .0, (g .0 .0, refl))); first = f .1 .0; second = f .1 .1 .0; count = g .1 .0 }
 
-wire-pass : (a b c : ℕ) (s : List ℕ) (at : ℕ) → WireStands a b c s at → (vs : List ℕ) × (wireAnswer s at ≡ accepted vs)
-unfolding wireAnswer after
+wire-pass : (a b c : ℕ) (s : List ℕ) (at : ℕ) → WireStands a b c s at → wireAnswer s at ≡ accepted (0 ∷ after 3 s at ∷ [])
+unfolding after
 wire-pass a b c s at w =
-    let f = numbers-pass p (a ∷ b ∷ []) s at (nextAt s (nextAt s at)) (w .stand .0, (w .stand .1 .0, refl)) (w .first, (w .second, tt)) in
-    let g = numbers-pass u32 (c ∷ []) s (nextAt s (nextAt s at)) (nextAt s (nextAt s (nextAt s at))) (w .stand .1 .1 .0, refl) (w .count, tt) in
-    (_, else-next _ _ _ f ∙ g)
+    counted s at 0 (after 2 s at) _
+    (numbers-pass p s (a ∷ b ∷ []) at (after 2 s at) (w .stand .0, (w .stand .1 .0, refl)) (w .first, (w .second, tt)))
+    (numbers-pass u32 s (c ∷ []) (after 2 s at) (after 3 s at) (w .stand .1 .1 .0, refl) (w .count, tt))
 
 -- n wires from a place on are accepted: their numbers stand there, the values are elements, and the counts are below 2^32
 pub record WiresFound (n : ℕ) (s : List ℕ) (at : ℕ) : Type 0 where
@@ -149,9 +150,9 @@ wires-of zero s at vs e =
       counts = tt;
     }
 wires-of (suc n) s at vs e =
-    let b = else-both _ _ vs (sym (wires-more n s at) ∙ e) in
-    let w = wire-of s at (b .0) (b .1) in
-    let r = wires-of n s (after 3 s at) vs (b .2) in
+    let b = passed _ _ vs (sym (wires-more s n at) ∙ e) in
+    let w = wire-of s at (b .values) (b .first) in
+    let r = wires-of n s (after 3 s at) vs (b .then) in
     let a = numberAt s at ∷ numberAt s (nextAt s at) ∷ numberAt s (after 2 s at) ∷ [] in
     let l = each (wireNumbers (valuesFrom n s (after 3 s at)) (countsFrom n s (after 3 s at))) n in
     let j = stand-join a l s at (after 3 s at) (after (3 * n) s (after 3 s at)) (w .stand) (r .stand) in
@@ -185,11 +186,26 @@ wires-read (suc n) (a ∷ b ∷ vs) (c ∷ cs) s at end h lv lc bv bc =
     (subst (λ (l : List ℕ). Stand l s at end) (wires-cons a b c vs cs n) h) in
     let r = wires-read n vs cs s (after 3 s at) end (g .1) (omega arith) (omega arith) (bv .1 .1) (bc .1) in
     let w = wire-pass a b c s at (record { stand = g .0; first = bv .0; second = bv .1 .0; count = bc .0 }) in
-    let x = read-number s at a (nextAt s at) (g .0 .0) in
-    let y = read-number s (nextAt s at) b (nextAt s (nextAt s at)) (g .0 .1 .0) in
-    let z = ap (numberAt s) (after-2 s at) ∙ read-number s (nextAt s (nextAt s at)) c (nextAt s (nextAt s (nextAt s at))) (g .0 .1 .1 .0) in
+    let x = sym (number-is s at a (nextAt s at) (g .0 .0)) in
+    let y = sym (number-is s (nextAt s at) b (nextAt s (nextAt s at)) (g .0 .1 .0)) in
+    let z = ap (numberAt s) (after-two s at) ∙ sym (number-is s (nextAt s (nextAt s at)) c (nextAt s (nextAt s (nextAt s at))) (g .0 .1 .1 .0)) in
     record {
       values = values-more n s at ∙ rw (x, y, r .values);
       counts = counts-more n s at ∙ rw (z, r .counts);
-      answer = wires-more n s at ∙ else-next _ _ _ (w .1) ∙ r .answer;
+      answer = wire-on s n at _ w ∙ r .answer;
     }
+
+-- so wires that are accepted end where three numbers for each end
+pub found-accepted : (n : ℕ) (s : List ℕ) (at : ℕ) → WiresFound n s at → Wires n s at
+found-accepted n s at f =
+    wires-read n (valuesFrom n s at) (countsFrom n s at) s at (after (3 * n) s at) (f .stand) (values-length n s at) (counts-length n s at) (f .elements) (f .counts) .answer
+
+pub wires-accepted : (n : ℕ) (s : List ℕ) (at : ℕ) (vs : List ℕ) → wiresAnswer n s at ≡ accepted vs → Wires n s at
+wires-accepted n s at vs e = found-accepted n s at (wires-of n s at vs e)
+
+-- of wires that stand, the first one's count is a u32, and those behind it stand
+pub count-fits : (n : ℕ) (s : List ℕ) (at : ℕ) → Wires (suc n) s at → numberAt s (after 2 s at) < u32
+count-fits n s at e = subst (AllBelow u32) (counts-more n s at) (wires-of (suc n) s at _ e .counts) .0
+
+pub wires-behind : (n : ℕ) (s : List ℕ) (at : ℕ) → Wires (suc n) s at → Wires n s (after 3 s at)
+wires-behind n s at e = wires-accepted n s (after 3 s at) _ (passed (wireAnswer s at) (wiresAnswer n s (after 3 s at)) _ (sym (wires-more s n at) ∙ e) .then)

@@ -2,7 +2,7 @@
 -- Assumes nothing.
 use Prim.Native.Nat.{ℕ, suc, _+_, _-_, _*_, _≤_, _<_}
 use mathlib.Core.Path.{_≡_, refl, sym, ap, ap₂, _∙_, subst}
-use mathlib.Core.List.{List, [], _∷_, _++_}
+use mathlib.Core.List.{List, _++_}
 use native.Mathlib.Nat.{sub-zero}
 use native.Mathlib.Omega.{arith}
 use lib.ListN.{length, set, length-set}
@@ -10,29 +10,11 @@ use lib.Seq.{sets, length-sets}
 use Rattle.record.specs.Numbers.{numberAt, nextAt, after, numbersFrom}
 use Rattle.record.specs.Reading.{u32, valuesFrom, countsFrom}
 use Rattle.record.specs.Inside.{Wires}
-use Rattle.record.proofs.Places.{after-none, after-one, after-add, length-from}
-use Rattle.record.proofs.Wires.{count-fits, wires-behind}
+use Rattle.record.proofs.Places.{after-none, after-last, from-two, length-from}
+use Rattle.record.proofs.WireList.{values-none, values-more, counts-none, counts-more, after-wire, count-fits, wires-behind}
 use Rattle.trace.proofs.Stores.{sets-append}
 
-module _ (s : List ℕ) (at : ℕ) where
-  no-values : valuesFrom 0 s at ≡ []
-  unfolding valuesFrom
-  no-values = refl
-
-  more-values : (n : ℕ) → valuesFrom (suc n) s at ≡ numbersFrom 2 s at ++ valuesFrom n s (after 3 s at)
-  unfolding valuesFrom
-  more-values n = refl
-
-  no-counts : countsFrom 0 s at ≡ []
-  unfolding countsFrom
-  no-counts = refl
-
-  more-counts : (n : ℕ) → countsFrom (suc n) s at ≡ numberAt s (after 2 s at) ∷ countsFrom n s (after 3 s at)
-  unfolding countsFrom
-  more-counts n = refl
-
 pub record WiresLoading (s : List ℕ) (at n : ℕ) (old-values old-counts values counts : List ℕ) (next k : ℕ) : Type 0 where
-  pub within : k ≤ n
   pub same-values : length values ≡ length old-values
   pub same-counts : length counts ≡ length old-counts
   pub stand : Wires (n - k) s next
@@ -44,7 +26,6 @@ module _ (s : List ℕ) (at n : ℕ) (old-values old-counts : List ℕ) where
   pub wires-start : Wires n s at → WiresLoading s at n old-values old-counts old-values old-counts at 0
   wires-start w =
       record {
-        within = omega arith;
         same-values = refl;
         same-counts = refl;
         stand = subst (λ (k : ℕ). Wires k s at) (sym (sub-zero n)) w;
@@ -60,18 +41,18 @@ module _ (s : List ℕ) (at n : ℕ) (old-values old-counts : List ℕ) where
     pub count-is-u32 : (count-at v : ℕ) → count-at ≡ after 2 s next → v ≡ numberAt s count-at → k < n → v < u32
     count-is-u32 count-at v e f h =
         let q : v ≡ numberAt s (after 2 s next) = f ∙ ap (numberAt s) e in
-        omega (arith, q, count-fits s (n - (k + 1)) next (left h))
+        omega (arith, q, count-fits (n - (k + 1)) s next (left h))
 
     module _ (count-at v place : ℕ) (e : count-at ≡ after 2 s next) (f : v ≡ numberAt s count-at) (g : place ≡ nextAt s count-at) (h : k < n) where
       third : place ≡ after 3 s next
-      third = g ∙ ap (nextAt s) e ∙ sym (after-one s (after 2 s next)) ∙ sym (after-add 2 1 s next)
+      third = g ∙ ap (nextAt s) e ∙ sym (after-last 2 s next)
 
       kept-place : after (3 * (n - (k + 1))) s place ≡ after (3 * n) s at
       kept-place =
-          let m : 3 + 3 * (n - (k + 1)) ≡ 3 * (n - k) = omega arith in
+          let m : n - k ≡ suc (n - (k + 1)) = omega arith in
           ap (after (3 * (n - (k + 1))) s) third
-          ∙ sym (after-add 3 (3 * (n - (k + 1))) s next)
-          ∙ ap (λ (j : ℕ). after j s next) m
+          ∙ sym (after-wire (n - (k + 1)) s next)
+          ∙ ap (λ (j : ℕ). after (3 * j) s next) (sym m)
           ∙ l .place
 
       kept-values : sets (sets values (2 * k) (numbersFrom 2 s next)) (2 * (k + 1)) (valuesFrom (n - (k + 1)) s place) ≡ sets old-values 0 (valuesFrom n s at)
@@ -80,7 +61,8 @@ module _ (s : List ℕ) (at n : ℕ) (old-values old-counts : List ℕ) where
           let j : 2 * (k + 1) ≡ 2 * k + length (numbersFrom 2 s next) = omega (arith, length-from 2 s next) in
           ap₂ (λ (x y : ℕ). sets (sets values (2 * k) (numbersFrom 2 s next)) x (valuesFrom (n - (k + 1)) s y)) j third
           ∙ sets-append (numbersFrom 2 s next) (valuesFrom (n - (k + 1)) s (after 3 s next)) values (2 * k)
-          ∙ ap (sets values (2 * k)) (sym (more-values s next (n - (k + 1))) ∙ ap (λ (x : ℕ). valuesFrom x s next) (sym m))
+          ∙ ap (λ (xs : List ℕ). sets values (2 * k) (xs ++ valuesFrom (n - (k + 1)) s (after 3 s next))) (from-two s next)
+          ∙ ap (sets values (2 * k)) (sym (values-more (n - (k + 1)) s next) ∙ ap (λ (x : ℕ). valuesFrom x s next) (sym m))
           ∙ l .stored-values
 
       kept-counts : sets (set counts k v) (k + 1) (countsFrom (n - (k + 1)) s place) ≡ sets old-counts 0 (countsFrom n s at)
@@ -89,17 +71,16 @@ module _ (s : List ℕ) (at n : ℕ) (old-values old-counts : List ℕ) where
           let j : k + 1 ≡ suc k = omega arith in
           ap₂ (λ (x y : ℕ). sets (set counts k v) x (countsFrom (n - (k + 1)) s y)) j third
           ∙ ap (λ (x : ℕ). sets (set counts k x) (suc k) (countsFrom (n - (k + 1)) s (after 3 s next))) (f ∙ ap (numberAt s) e)
-          ∙ ap (sets counts k) (sym (more-counts s next (n - (k + 1))) ∙ ap (λ (x : ℕ). countsFrom x s next) (sym m))
+          ∙ ap (sets counts k) (sym (counts-more (n - (k + 1)) s next) ∙ ap (λ (x : ℕ). countsFrom x s next) (sym m))
           ∙ l .stored-counts
 
       pub wires-next : (values′ : List ℕ) → values′ ≡ sets values (2 * k) (numbersFrom 2 s next)
           → WiresLoading s at n old-values old-counts values′ (set counts k v) place (k + 1)
       wires-next values′ q =
           record {
-            within = omega arith;
             same-values = ap (λ (x : List ℕ). length x) q ∙ length-sets values (2 * k) (numbersFrom 2 s next) ∙ l .same-values;
             same-counts = length-set counts k v ∙ l .same-counts;
-            stand = subst (λ (j : ℕ). Wires (n - (k + 1)) s j) (sym third) (wires-behind s (n - (k + 1)) next (left h));
+            stand = subst (λ (j : ℕ). Wires (n - (k + 1)) s j) (sym third) (wires-behind (n - (k + 1)) s next (left h));
             place = kept-place;
             stored-values = ap (λ (x : List ℕ). sets x (2 * (k + 1)) (valuesFrom (n - (k + 1)) s place)) q ∙ kept-values;
             stored-counts = kept-counts;
@@ -111,6 +92,6 @@ module _ (s : List ℕ) (at n : ℕ) (old-values old-counts : List ℕ) where
         let z : n - k ≡ 0 = omega arith in
         let y : 3 * (n - k) ≡ 0 = omega arith in (
           sym (after-none s next) ∙ ap (λ (j : ℕ). after j s next) (sym y) ∙ l .place,
-          ap (sets values (2 * k)) (sym (no-values s next) ∙ ap (λ (j : ℕ). valuesFrom j s next) (sym z)) ∙ l .stored-values,
-          ap (sets counts k) (sym (no-counts s next) ∙ ap (λ (j : ℕ). countsFrom j s next) (sym z)) ∙ l .stored-counts,
+          ap (sets values (2 * k)) (sym (values-none s next) ∙ ap (λ (j : ℕ). valuesFrom j s next) (sym z)) ∙ l .stored-values,
+          ap (sets counts k) (sym (counts-none s next) ∙ ap (λ (j : ℕ). countsFrom j s next) (sym z)) ∙ l .stored-counts,
         )

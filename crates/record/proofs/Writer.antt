@@ -1,25 +1,26 @@
 -- The writer accepts a record exactly where its tests pass and there is room; then the bytes stand first, and all after them is as it was.
 -- Assumes nothing.
 use Prim.Native.Nat.{ℕ, _*_, _≤_, _<_}
-use mathlib.Core.Path.{_≡_, refl, sym, ap, _∙_}
+use mathlib.Core.Path.{_≡_, refl, sym, _∙_}
 use mathlib.Core.Bool.{true}
 use mathlib.Core.List.{List, [], _∷_, _++_}
 use native.Mathlib.Omega.{arith}
 use lib.Dec.{leb}
 use lib.ListN.{length, getD, take, drop}
-use lib.Seq.{sets, getD-take, length-take-le}
+use lib.Seq.{getD-take, length-take-le}
 use borrow.Author.Tests.{leb-true, lt-ltb, le-leb}
-use Rattle.field.specs.Told.{Told, accepted, changed}
+use Rattle.field.specs.Told.{accepted}
 use Rattle.field.specs.Field.{p, firstOver}
 use Rattle.field.proofs.Over.{over-all}
 use Rattle.trace.specs.declared.RecordHeader.{RecordHeader}
-use Rattle.trace.specs.Counts.{room}
 use Rattle.trace.specs.Outcome.{Lent}
 use Rattle.trace.specs.Record.{recordWires, recordCells, elements, inField}
 use Rattle.trace.proofs.Choices.{both-hold, passes}
-use Rattle.trace.proofs.Tests.{Fits}
+use Rattle.trace.proofs.Reached.{room-is}
 use Rattle.trace.proofs.Records.{Recorded, record-of, in-order}
 use Rattle.record.specs.Bytes.{recordBytes, ofBytes, writeIntoAnswer, writtenInto}
+use Rattle.record.proofs.Ways.{told}
+use Rattle.record.proofs.RecordWriting.{write-left, write-goes}
 use Rattle.record.proofs.Used.{front-set}
 
 elements-hold : (n : ℕ) (xs : List ℕ) → n ≤ length xs → ((k : ℕ) → k < n → getD xs k 0 < p) → elements n xs ≡ true
@@ -29,10 +30,6 @@ elements-hold n xs l h =
     let e = over-all (take n xs) (λ k i. let j : k < n = omega arith in rw (getD-take n xs k 0 j) (h k j)) in
     le-leb n (firstOver (take n xs)) (omega arith)
 
-room-holds : (r e values counts nodes : ℕ) → Fits r e values counts nodes → room r e values counts nodes ≡ true
-unfolding room
-room-holds r e values counts nodes f = both-hold _ _ (le-leb _ _ (f .for-values)) (both-hold _ _ (le-leb _ _ (f .for-counts)) (le-leb _ _ (f .for-nodes)))
-
 field-holds : (h : RecordHeader) (b : Lent) → Recorded h b → inField h b ≡ true
 unfolding inField
 field-holds h b r =
@@ -40,17 +37,12 @@ field-holds h b r =
     (both-hold _ _ (elements-hold (recordCells h) (b .nodes) (r .fits .for-nodes) (r .nodes-in))
     (lt-ltb _ _ (r .id-in)))
 
-bytes-fit : (bytes out : List ℕ) → length bytes ≤ length out → ofBytes bytes out ≡ accepted (length bytes ∷ [])
-unfolding ofBytes
-bytes-fit bytes out l = rw (le-leb (length bytes) (length out) l)
-
 pub writer-accepts : (h : RecordHeader) (b : Lent) (out : List ℕ) → Recorded h b → length (recordBytes h b) ≤ length out
     → writeIntoAnswer h b out ≡ accepted (length (recordBytes h b) ∷ [])
-unfolding writeIntoAnswer
 writer-accepts h b out r l =
     let n : (h .«num_eval» ≡ 0 → ⊥) = λ q. omega (arith, r .some-evals) in
-    sym (in-order h b (ofBytes (recordBytes h b) out) n (r .few) (room-holds _ _ _ _ _ (r .fits)) (field-holds h b r))
-    ∙ bytes-fit (recordBytes h b) out l
+    let tested = in-order h b (accepted []) n (r .few) (room-is _ _ _ _ _ (r .fits)) (field-holds h b r) in
+    sym (write-goes h b out tested (length (recordBytes h b)) refl l)
 
 -- a record that the writer accepts
 pub record Written (h : RecordHeader) (b : Lent) (out vs : List ℕ) : Type 0 where
@@ -67,12 +59,7 @@ written-of h b out vs e =
     let l = leb-true _ _ (q .0) in
     record {
       recorded = r .0;
-      answer = of-told (q .1);
+      answer = sym (told (q .1));
       inside = l;
-      bytes =
-          ap (λ (t : Told). changed t (sets out 0 (recordBytes h b)) out) e
-          ∙ front-set (length (recordBytes h b)) (recordBytes h b) out refl l;
+      bytes = sym (write-left h b out (accepted vs) (sym e)) ∙ front-set (length (recordBytes h b)) (recordBytes h b) out refl l;
     }
-  where
-    of-told : {ws : List ℕ} → accepted ws ≡ accepted vs → vs ≡ ws
-    of-told q = cc

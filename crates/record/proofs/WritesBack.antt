@@ -1,11 +1,11 @@
 -- Read writes back: bytes that the reader accepts are those that the writer writes of what was read.
 -- Assumes nothing.
-use Prim.Native.Nat.{ℕ, _*_, _≤_, _<_}
+use Prim.Native.Nat.{ℕ, _*_, _≤_}
 use mathlib.Core.Path.{_≡_, refl, sym, ap, _∙_, subst}
 use mathlib.Core.List.{List, [], _∷_, _++_}
 use native.Mathlib.Omega.{arith}
 use lib.ListN.{length, getD, take, drop, length-append}
-use lib.Seq.{sets, length-sets, getD-take, take-all}
+use lib.Seq.{sets, length-sets, take-all}
 use Rattle.field.specs.Told.{accepted}
 use Rattle.field.specs.Field.{p}
 use Rattle.field.specs.Lists.{each}
@@ -18,10 +18,14 @@ use Rattle.trace.proofs.Records.{Recorded}
 use Rattle.record.specs.Bytes.{wireNumbers, bytesOfAll, recordNumbers, recordBytes, writeIntoAnswer, writtenInto}
 use Rattle.record.specs.Numbers.{numbersFrom}
 use Rattle.record.specs.Reading.{ctxIn, clkIn, idNextIn, wiresIn, wiresAt, readsIn, readsAt, evalsIn, evalsAt, endAt, headerIn, readFromAnswer, recordIn, readBuffers}
-use Rattle.record.proofs.Sequence.{AllBelow, below-at, below-append, from-length, stand-from, stand-written}
+use Rattle.record.proofs.Places.{length-from}
+use Rattle.record.proofs.Bounds.{below-append, first-below}
+use Rattle.record.proofs.Sequence.{stand-from, stand-written}
 use Rattle.record.proofs.WireList.{values-length, counts-length}
-use Rattle.record.proofs.FieldsFound.{valuesIn, countsIn, readCellsIn, evalCellsIn, numbersIn, Accepted, accepted-of, record-in, after-reading}
-use Rattle.record.proofs.Used.{used, laid-equal, held-numbers, front-taken, lent-equal}
+use Rattle.record.proofs.FieldsFound.{valuesIn, countsIn, readCellsIn, evalCellsIn, numbersIn, Accepted, accepted-of, record-in}
+use Rattle.record.proofs.Standing.{leaves}
+use Rattle.record.proofs.Loads.{lent-equal}
+use Rattle.record.proofs.Used.{used, laid-equal, held-numbers, front-taken}
 use Rattle.record.proofs.Writer.{writer-accepts, written-of}
 
 -- the header with the numbers that stand in bytes
@@ -42,10 +46,6 @@ header-of h s e =
       id-is = ap (λ (l : List ℕ). getD l 4 0) e;
     }
 
-first-below : (n : ℕ) (xs ys : List ℕ) → take n xs ≡ ys → length ys ≡ n → AllBelow p ys → (k : ℕ) → k < n → getD xs k 0 < p
-first-below n xs ys e l b k h =
-    subst (λ (v : ℕ). v < p) (sym (ap (λ (ws : List ℕ). getD ws k 0) e) ∙ getD-take n xs k 0 h) (below-at p ys b k (omega arith))
-
 -- bytes s that are accepted for the buffers b, and the header h that stands in them
 module _ (s : List ℕ) (b : Lent) (h : RecordHeader)
     (a : Accepted s (length (b .values)) (length (b .counts)) (length (b .nodes))) (e : HeaderOf h s) where
@@ -59,10 +59,10 @@ module _ (s : List ℕ) (b : Lent) (h : RecordHeader)
   counts-many = omega (arith, counts-length (wiresIn s) s (wiresAt s), wires-same)
 
   reads-many : length (readCellsIn s) ≡ 7 * h .«num_read»
-  reads-many = omega (arith, from-length (7 * readsIn s) s (readsAt s), e .reads-are)
+  reads-many = omega (arith, length-from (7 * readsIn s) s (readsAt s), e .reads-are)
 
   evals-many : length (evalCellsIn s) ≡ 11 * h .«num_eval»
-  evals-many = omega (arith, from-length (11 * evalsIn s) s (evalsAt s), e .evals-are)
+  evals-many = omega (arith, length-from (11 * evalsIn s) s (evalsAt s), e .evals-are)
 
   nodes-many : length (readCellsIn s ++ evalCellsIn s) ≡ recordCells h
   nodes-many = omega (arith, length-append (readCellsIn s) (evalCellsIn s), reads-many, evals-many)
@@ -111,15 +111,14 @@ module _ (s : List ℕ) (b : Lent) (h : RecordHeader)
           for-counts = omega (arith, a .room-counts, wires-same, length-sets (b .counts) 0 (countsIn s));
           for-nodes = omega (arith, a .room-nodes, e .reads-are, e .evals-are, length-sets (b .nodes) 0 (readCellsIn s ++ evalCellsIn s));
         };
-        values-in = first-below (2 * recordWires h) _ (valuesIn s) values-used values-many (a .values-below);
-        nodes-in = first-below (recordCells h) _ (readCellsIn s ++ evalCellsIn s) nodes-used nodes-many (below-append p (readCellsIn s) (evalCellsIn s) (a .reads-below) (a .evals-below));
+        values-in = first-below p (2 * recordWires h) _ (valuesIn s) values-used values-many (a .list .elements);
+        nodes-in = first-below p (recordCells h) _ (readCellsIn s ++ evalCellsIn s) nodes-used nodes-many (below-append p (readCellsIn s) (evalCellsIn s) (a .reads-below) (a .evals-below));
         id-in = omega (arith, a .id-below, e .id-is);
       })
 
   read-bytes : Bytes s → recordBytes h (recordIn s b) ≡ s
   read-bytes hb =
-      let w = stand-written (numbersIn s) s 0 (endAt s) hb (omega arith) (a .stand) in
-      ap bytesOfAll read-numbers ∙ sym (w .bytes) ∙ take-all (endAt s) s (a .all-read)
+      ap bytesOfAll read-numbers ∙ sym (stand-written (numbersIn s) s 0 (endAt s) hb (omega arith) (a .stand)) ∙ take-all (endAt s) s (a .all-read)
 
 -- The reader answers the header that stands in the bytes.
 pub answers-header : (s : List ℕ) (b : Lent) (vs : List ℕ) → readFromAnswer s b ≡ accepted vs → vs ≡ headerIn s
@@ -149,4 +148,4 @@ pub writes-back : (s : List ℕ) (b : Lent) (vs : List ℕ) (h : RecordHeader) �
 writes-back s b vs h hb e q =
     let a = accepted-of s b vs e in
     let f = header-of h s (q ∙ sym (a .1)) in
-    subst (WritesBack s h) (sym (after-reading s b vs e)) (recorded-back s h (recordIn s b) (read-in-order s b h (a .0) f) (read-bytes s b h (a .0) f hb) (read-recorded s b h (a .0) f))
+    subst (WritesBack s h) (leaves s b (accepted vs) (sym e)) (recorded-back s h (recordIn s b) (read-in-order s b h (a .0) f) (read-bytes s b h (a .0) f hb) (read-recorded s b h (a .0) f))

@@ -4,7 +4,7 @@ use mathlib.Core.Path.{ap, _∙_}
 use borrow.Author.Needs.{needs}
 use Rattle.field.specs.Told.{accepted}
 use Rattle.record.proofs.Ways.{heard}
-use Rattle.record.proofs.Standing.{stands, answers-refusal, answers-header, leaves-all, leaves-record}
+use Rattle.record.proofs.Standing.{stands, refusal-answered, header-answered, leaves}
 use Rattle.record.proofs.read_from.Tie as tie
 use Rattle.record.proofs.read_from.Statement.{statement}
 
@@ -17,7 +17,8 @@ enum-known-found c = search needs
 returns : tie.Need-returns
 returns c =
     let e = heard (c .before .before .before .find .ensures) (c .before .found .given .1) in
-    (answers-refusal _ _ _ _ e, leaves-all _ _ _ _ e)
+    let q = refusal-answered _ _ _ _ e in
+    (q, leaves _ _ _ q)
 
 enum-told : tie.Need-enum-told
 enum-told c = search needs
@@ -37,7 +38,8 @@ same-length-3 c = search needs
 returns-2 : tie.Need-returns-2
 returns-2 c =
     let e = heard (c .before .before .before .before .before .before .before .before .before .before .before .before .find .ensures) (c .before .before .before .before .before .before .before .before .before .before .enum-told .given .1) in
-    (ap accepted (c .before .before .before .before .before .before .load .ensures .0) ∙ answers-header _ _ _ e, c .before .before .before .before .before .before .load .ensures .1 ∙ leaves-record _ _ _ e)
+    let q = header-answered _ _ _ e in
+    (ap accepted (c .before .before .before .before .before .before .load .ensures .0) ∙ q, c .before .before .before .before .before .before .load .ensures .1 ∙ leaves _ _ _ q)
 
 pub read-from-spec : {M : Type 1} → statement M
 read-from-spec =

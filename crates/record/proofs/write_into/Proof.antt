@@ -6,7 +6,7 @@ use borrow.Author.Needs.{needs}
 use Rattle.field.specs.Told.{refused}
 use Rattle.trace.specs.Outcome.{lent}
 use Rattle.trace.specs.Record.{testedTold}
-use Rattle.record.proofs.RecordWriting.{held, write-kept, write-stops, write-over, write-goes, write-leaves}
+use Rattle.record.proofs.RecordWriting.{held, write-left, write-stops, write-over, write-goes, write-leaves}
 use Rattle.record.proofs.write_into.Statement.{statement}
 use Rattle.record.proofs.write_into.Tie as tie
 
@@ -19,7 +19,7 @@ enum-known-tested c = search needs
 returns : tie.Need-returns
 returns c =
     let e = write-stops _ _ (c .before .before .before .before .before .before .before .before .args .out .now) _ _ (ap testedTold (sym (c .before .tested .given .1)) ∙ c .before .before .before .test .ensures) in
-    (e, write-kept _ _ _ _ _ e)
+    (e, write-left _ _ _ _ e)
 
 enum-told : tie.Need-enum-told
 enum-told c = search needs
@@ -30,7 +30,7 @@ record-width-requires c κs = held _ _ (ap testedTold (sym (c .enum-told .given 
 returns-2 : tie.Need-returns-2
 returns-2 c =
     let e = write-over _ _ (c .before .before .before .before .before .before .before .before .before .args .out .now) (ap testedTold (sym (c .before .before .enum-told .given .1)) ∙ c .before .before .before .before .test .ensures) _ (c .before .record-width .ensures) (c .if1 .taken) in
-    (ap₂ refused (omega arith) (omega arith) ∙ e, write-kept _ _ _ _ _ e)
+    (ap₂ refused (omega arith) (omega arith) ∙ e, write-left _ _ _ _ e)
 
 put-record-requires : tie.Need-put-record-requires
 put-record-requires c κs = (held _ _ (ap testedTold (sym (c .before .before .before .enum-told .given .1)) ∙ c .before .before .before .before .before .test .ensures), omega (arith, c .before .before .record-width .ensures, c .before .if1 .left))

@@ -4,7 +4,7 @@ use mathlib.Core.Path.{sym, ap, _∙_}
 use borrow.Author.Needs.{needs}
 use Rattle.trace.specs.Outcome.{lent}
 use Rattle.trace.specs.Record.{headerTold}
-use Rattle.record.proofs.RecordWriting.{state-kept, state-stops, state-answer, state-leaves}
+use Rattle.record.proofs.RecordWriting.{state-left, state-stops, state-answer, state-leaves}
 use Rattle.record.proofs.write_state_into.Statement.{statement}
 use Rattle.record.proofs.write_state_into.Tie as tie
 
@@ -35,7 +35,7 @@ returns-2 : tie.Need-returns-2
 returns-2 c =
     let a = c .before .before .before .before .before .before .before .before .args in
     let e = state-stops (a .state) (lent (a .values .now) (a .counts .now) (a .nodes .now)) (a .out .now) _ _ (ap headerTold (sym (c .before .finalized3 .given .1)) ∙ c .before .before .before .finalized .ensures) in
-    (e, state-kept _ _ _ _ _ e)
+    (e, state-left _ _ _ _ e)
 
 pub write-state-into-spec : {M : Type 1} → statement M
 write-state-into-spec =
