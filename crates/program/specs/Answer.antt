@@ -18,7 +18,7 @@ use Rattle.program.specs.Text.{lines}
 abbrev pub here : Lent
 here = lent (replicate 256 0) (replicate 128 0) (replicate 1408 0)
 
--- "refuse " and "accept "
+-- the two words, each with a space behind it
 abbrev pub refuse : List ℕ
 refuse = 114 ∷ 101 ∷ 102 ∷ 117 ∷ 115 ∷ 101 ∷ 32 ∷ []
 

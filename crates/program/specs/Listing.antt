@@ -44,82 +44,69 @@ unfolding programText readBelowAnswer readAnswer findFrom illFormed numberAt nex
 written = refl
 
 -- empty input
-pub empty : programAnswer ([]) ≡ refused 15 0
-unfolding readBelowAnswer readAnswer findFrom illFormed numberAt nextAt after numbersFrom numbersAnswer
-    ctxIn clkIn ptrIn varsIn evalsIn cellsIn cellsAt memoryIn headAnswer cellsAnswer overRoom inputAnswer programAnswer
-    evalAnswer ofRegion ofCells room firstOver gatesAnswer gateAnswer decodeAnswer ofElements valueBy
-empty = refl
+abbrev pub empty : List ℕ
+empty = []
 
 -- a byte behind the last cell
-pub left-over : programAnswer (listing ++ (0 ∷ [])) ≡ refused 23 0
-unfolding readBelowAnswer readAnswer findFrom illFormed numberAt nextAt after numbersFrom numbersAnswer
-    ctxIn clkIn ptrIn varsIn evalsIn cellsIn cellsAt memoryIn headAnswer cellsAnswer overRoom inputAnswer programAnswer
-    evalAnswer ofRegion ofCells room firstOver gatesAnswer gateAnswer decodeAnswer ofElements valueBy
-left-over = refl
+abbrev pub left-over : List ℕ
+left-over = listing ++ (0 ∷ [])
 
 -- ctx of 2^32
-pub over-u32 : programAnswer (128 ∷ 128 ∷ 128 ∷ 128 ∷ 16 ∷ []) ≡ refused 17 0
-unfolding readBelowAnswer readAnswer findFrom illFormed numberAt nextAt after numbersFrom numbersAnswer
-    ctxIn clkIn ptrIn varsIn evalsIn cellsIn cellsAt memoryIn headAnswer cellsAnswer overRoom inputAnswer programAnswer
-    evalAnswer ofRegion ofCells room firstOver gatesAnswer gateAnswer decodeAnswer ofElements valueBy
-over-u32 = refl
+abbrev pub over-u32 : List ℕ
+over-u32 = 128 ∷ 128 ∷ 128 ∷ 128 ∷ 16 ∷ []
 
 -- n of 1025, right at n: no cell is looked at
-pub many-cells : programAnswer (0 ∷ 7 ∷ 0 ∷ 2 ∷ 4 ∷ 129 ∷ 8 ∷ []) ≡ refused 24 0
-unfolding readBelowAnswer readAnswer findFrom illFormed numberAt nextAt after numbersFrom numbersAnswer
-    ctxIn clkIn ptrIn varsIn evalsIn cellsIn cellsAt memoryIn headAnswer cellsAnswer overRoom inputAnswer programAnswer
-    evalAnswer ofRegion ofCells room firstOver gatesAnswer gateAnswer decodeAnswer ofElements valueBy
-many-cells = refl
+abbrev pub many-cells : List ℕ
+many-cells = 0 ∷ 7 ∷ 0 ∷ 2 ∷ 4 ∷ 129 ∷ 8 ∷ []
 
 -- n of 1024, and no cell
-pub most-cells : programAnswer (0 ∷ 7 ∷ 0 ∷ 2 ∷ 4 ∷ 128 ∷ 8 ∷ []) ≡ refused 15 7
-unfolding readBelowAnswer readAnswer findFrom illFormed numberAt nextAt after numbersFrom numbersAnswer
-    ctxIn clkIn ptrIn varsIn evalsIn cellsIn cellsAt memoryIn headAnswer cellsAnswer overRoom inputAnswer programAnswer
-    evalAnswer ofRegion ofCells room firstOver gatesAnswer gateAnswer decodeAnswer ofElements valueBy
-most-cells = refl
+abbrev pub most-cells : List ℕ
+most-cells = 0 ∷ 7 ∷ 0 ∷ 2 ∷ 4 ∷ 128 ∷ 8 ∷ []
 
--- 129 wires; but 23 comes before
-pub many-wires : programAnswer (0 ∷ 7 ∷ 0 ∷ 2 ∷ 127 ∷ 0 ∷ []) ≡ refused 24 0
-unfolding readBelowAnswer readAnswer findFrom illFormed numberAt nextAt after numbersFrom numbersAnswer
-    ctxIn clkIn ptrIn varsIn evalsIn cellsIn cellsAt memoryIn headAnswer cellsAnswer overRoom inputAnswer programAnswer
-    evalAnswer ofRegion ofCells room firstOver gatesAnswer gateAnswer decodeAnswer ofElements valueBy
-many-wires = refl
+-- 129 wires, and with a byte behind
+abbrev pub many-wires : List ℕ
+many-wires = 0 ∷ 7 ∷ 0 ∷ 2 ∷ 127 ∷ 0 ∷ []
 
-pub left-first : programAnswer (0 ∷ 7 ∷ 0 ∷ 2 ∷ 127 ∷ 0 ∷ 0 ∷ []) ≡ refused 23 0
-unfolding readBelowAnswer readAnswer findFrom illFormed numberAt nextAt after numbersFrom numbersAnswer
-    ctxIn clkIn ptrIn varsIn evalsIn cellsIn cellsAt memoryIn headAnswer cellsAnswer overRoom inputAnswer programAnswer
-    evalAnswer ofRegion ofCells room firstOver gatesAnswer gateAnswer decodeAnswer ofElements valueBy
-left-first = refl
+abbrev pub left-first : List ℕ
+left-first = 0 ∷ 7 ∷ 0 ∷ 2 ∷ 127 ∷ 0 ∷ 0 ∷ []
 
 -- 128 wires, and no memory
-pub most-wires : programAnswer (0 ∷ 7 ∷ 0 ∷ 4 ∷ 124 ∷ 0 ∷ []) ≡ refused 5 0
-unfolding readBelowAnswer readAnswer findFrom illFormed numberAt nextAt after numbersFrom numbersAnswer
-    ctxIn clkIn ptrIn varsIn evalsIn cellsIn cellsAt memoryIn headAnswer cellsAnswer overRoom inputAnswer programAnswer
-    evalAnswer ofRegion ofCells room firstOver gatesAnswer gateAnswer decodeAnswer ofElements valueBy
-most-wires = refl
+abbrev pub most-wires : List ℕ
+most-wires = 0 ∷ 7 ∷ 0 ∷ 4 ∷ 124 ∷ 0 ∷ []
 
 -- 32768 wires, and one more
-pub last-here : programAnswer (0 ∷ 7 ∷ 0 ∷ 128 ∷ 128 ∷ 2 ∷ 0 ∷ 0 ∷ []) ≡ refused 24 0
-unfolding readBelowAnswer readAnswer findFrom illFormed numberAt nextAt after numbersFrom numbersAnswer
-    ctxIn clkIn ptrIn varsIn evalsIn cellsIn cellsAt memoryIn headAnswer cellsAnswer overRoom inputAnswer programAnswer
-    evalAnswer ofRegion ofCells room firstOver gatesAnswer gateAnswer decodeAnswer ofElements valueBy
-last-here = refl
+abbrev pub last-here : List ℕ
+last-here = 0 ∷ 7 ∷ 0 ∷ 128 ∷ 128 ∷ 2 ∷ 0 ∷ 0 ∷ []
 
-pub past-here : programAnswer (0 ∷ 7 ∷ 0 ∷ 129 ∷ 128 ∷ 2 ∷ 0 ∷ 0 ∷ []) ≡ refused 1 0
-unfolding readBelowAnswer readAnswer findFrom illFormed numberAt nextAt after numbersFrom numbersAnswer
-    ctxIn clkIn ptrIn varsIn evalsIn cellsIn cellsAt memoryIn headAnswer cellsAnswer overRoom inputAnswer programAnswer
-    evalAnswer ofRegion ofCells room firstOver gatesAnswer gateAnswer decodeAnswer ofElements valueBy
-past-here = refl
+abbrev pub past-here : List ℕ
+past-here = 0 ∷ 7 ∷ 0 ∷ 129 ∷ 128 ∷ 2 ∷ 0 ∷ 0 ∷ []
 
--- the sum is a whole number: 2^64 - 1 and 130 make 1, and not 24
-pub no-wrap : programAnswer (0 ∷ 7 ∷ 0 ∷ 255 ∷ 255 ∷ 255 ∷ 255 ∷ 255 ∷ 255 ∷ 255 ∷ 255 ∷ 255 ∷ 1 ∷ 130 ∷ 1 ∷ 0 ∷ []) ≡ refused 1 0
+-- the sum is a whole number, and does not wrap: 2^64 - 1 and 130
+abbrev pub no-wrap : List ℕ
+no-wrap = 0 ∷ 7 ∷ 0 ∷ 255 ∷ 255 ∷ 255 ∷ 255 ∷ 255 ∷ 255 ∷ 255 ∷ 255 ∷ 255 ∷ 1 ∷ 130 ∷ 1 ∷ 0 ∷ []
+
+-- each, with its refusal
+pub refusals :
+    programAnswer empty
+    ∷ programAnswer left-over
+    ∷ programAnswer over-u32
+    ∷ programAnswer many-cells
+    ∷ programAnswer most-cells
+    ∷ programAnswer many-wires
+    ∷ programAnswer left-first
+    ∷ programAnswer most-wires
+    ∷ programAnswer last-here
+    ∷ programAnswer past-here
+    ∷ programAnswer no-wrap
+    ∷ []
+    ≡ refused 15 0 ∷ refused 23 0 ∷ refused 17 0 ∷ refused 24 0 ∷ refused 15 7 ∷ refused 24 0 ∷ refused 23 0 ∷ refused 5 0 ∷ refused 24 0 ∷ refused 1 0 ∷ refused 1 0 ∷ []
 unfolding readBelowAnswer readAnswer findFrom illFormed numberAt nextAt after numbersFrom numbersAnswer
     ctxIn clkIn ptrIn varsIn evalsIn cellsIn cellsAt memoryIn headAnswer cellsAnswer overRoom inputAnswer programAnswer
     evalAnswer ofRegion ofCells room firstOver gatesAnswer gateAnswer decodeAnswer ofElements valueBy
-no-wrap = refl
+refusals = refl
 
 -- "refuse" and the number, in a line
-pub refused-line : programText [] ≡ 114 ∷ 101 ∷ 102 ∷ 117 ∷ 115 ∷ 101 ∷ 32 ∷ 49 ∷ 53 ∷ 10 ∷ []
+pub refused-line : programText empty ≡ 114 ∷ 101 ∷ 102 ∷ 117 ∷ 115 ∷ 101 ∷ 32 ∷ 49 ∷ 53 ∷ 10 ∷ []
 unfolding programText readBelowAnswer readAnswer findFrom illFormed numberAt nextAt after numbersFrom numbersAnswer
     ctxIn clkIn ptrIn varsIn evalsIn cellsIn cellsAt memoryIn headAnswer cellsAnswer overRoom inputAnswer programAnswer digitsIn decimal each
 refused-line = refl

@@ -1,4 +1,4 @@
-// "It reads ctx, clk, ptr, num_vars, num_eval, n and n cells as such numbers." Each function that
+// "It reads ctx, clk, ptr, num_vars, num_eval, n and n cells as such numbers". Each function that
 // reads answers a number and the place after what it read, or the first refusal.
 ghost use mathlib.Core.Path.{_≡_};
 ghost use Prim.Native.Nat.{_+_, _≤_, _^_};
