@@ -110,6 +110,12 @@ fn with_counts(case: &[u8], word: u64, left: u32, right: u32) {
     first_over(case, word, stored(), [left, right, 9, 9, 9, 9, 9]);
 }
 
+fn over_both(case: &[u8]) {
+    let mut values = stored();
+    values[0] = P;
+    first_over(case, ADD_5_4, values, [4294967295, 0, 9, 9, 9, 9, 9]);
+}
+
 pub fn operations() {
     first(b"Add of 5 and 4", 4, ADD_5_4);
     first(b"Mul of 5 and 4", 4, 1152921508901814277);
@@ -119,84 +125,49 @@ pub fn operations() {
     first(b"the pointer p - 1", P - 1, ADD_5_4);
 }
 
-pub fn turns() {
+// The listing's first gate, from another state of its circuit.
+fn after(case: &[u8], reads_done: u32, evals_done: u32, id_next: u64) {
+    let state = states::state(reads_done, evals_done, id_next);
+    eval(case, state, 4, ADD_5_4, states::exact());
+}
+
+// From the state after the READ step of another circuit.
+fn of_counts(case: &[u8], num_read: u32, num_eval: u32, id_next: u64) {
+    let state = states::state_of(num_read, num_eval, 1, 0, id_next);
+    eval(case, state, 4, ADD_5_4, states::exact());
+}
+
+fn lent(case: &[u8], word: u64, values: usize, counts: usize, nodes: usize) {
+    let lengths = states::lent(values, counts, nodes);
+    eval(case, states::state(1, 0, 3), 4, word, lengths);
+}
+
+fn too_soon_over_nothing(case: &[u8]) {
     eval(
-        b"a READ step lacks",
-        states::state(0, 0, 5),
-        4,
-        ADD_5_4,
-        states::exact(),
-    );
-    eval(
-        b"all EVAL steps are done",
-        states::state(1, 4, P - 1),
-        8,
-        ADD_5_4,
-        states::exact(),
-    );
-    eval(
-        b"an EVAL step done before the READ step",
-        states::state(0, 1, 4),
-        4,
-        ADD_5_4,
-        states::exact(),
-    );
-    eval(
-        b"id_next one too large",
-        states::state(1, 0, 4),
-        4,
-        ADD_5_4,
-        states::exact(),
-    );
-    eval(
-        b"a state with num_eval 0",
-        states::state_of(1, 0, 1, 0, P - 1),
-        4,
-        ADD_5_4,
-        states::exact(),
-    );
-    eval(
-        b"a state of 32769 wires",
-        states::state_of(1, 32767, 1, 0, 32766),
-        4,
-        ADD_5_4,
-        states::exact(),
-    );
-    eval(
-        b"values one short",
-        states::state(1, 0, 3),
-        4,
-        ADD_5_4,
-        states::lent(11, 6, 51),
-    );
-    eval(
-        b"counts one short",
-        states::state(1, 0, 3),
-        4,
-        ADD_5_4,
-        states::lent(12, 5, 51),
-    );
-    eval(
-        b"nodes one short",
-        states::state(1, 0, 3),
-        4,
-        ADD_5_4,
-        states::lent(12, 6, 50),
-    );
-    eval(
-        b"13 ahead of 6",
+        case,
         states::state(0, 0, 5),
         4,
         ADD_5_4,
         states::lent(0, 0, 0),
     );
-    eval(
-        b"6 ahead of 7",
-        states::state(1, 0, 3),
-        4,
-        P,
-        states::lent(12, 6, 50),
-    );
+}
+
+fn last_gate(case: &[u8], word: u64) {
+    eval(case, states::state(1, 3, 0), 7, word, states::exact());
+}
+
+pub fn turns() {
+    after(b"a READ step lacks", 0, 0, 5);
+    after(b"all EVAL steps are done", 1, 4, P - 1);
+    after(b"an EVAL step done before the READ step", 0, 1, 4);
+    after(b"id_next one too large", 1, 0, 4);
+    of_counts(b"a state with num_eval 0", 1, 0, P - 1);
+    of_counts(b"a state of 32769 wires", 1, 32767, 32766);
+    lent(b"values one short", ADD_5_4, 11, 6, 51);
+    lent(b"counts one short", ADD_5_4, 12, 5, 51);
+    lent(b"nodes one short", ADD_5_4, 12, 6, 50);
+    too_soon_over_nothing(b"13 ahead of 6");
+    lent(b"6 ahead of 7", P, 12, 6, 50);
 }
 
 pub fn words() {
@@ -222,27 +193,9 @@ pub fn words() {
 }
 
 pub fn gate_numbers() {
-    eval(
-        b"8 tells the gate",
-        states::state(1, 3, 0),
-        7,
-        OPCODE_3,
-        states::exact(),
-    );
-    eval(
-        b"9 tells the gate",
-        states::state(1, 3, 0),
-        7,
-        4294967296,
-        states::exact(),
-    );
-    eval(
-        b"10 tells the gate",
-        states::state(1, 3, 0),
-        7,
-        5,
-        states::exact(),
-    );
+    last_gate(b"8 tells the gate", OPCODE_3);
+    last_gate(b"9 tells the gate", 4294967296);
+    last_gate(b"10 tells the gate", 5);
 }
 
 pub fn operands() {
@@ -270,10 +223,5 @@ pub fn operands() {
         4294967294,
         0,
     );
-    first_over(
-        b"the left value's 7 ahead of its count's 13",
-        ADD_5_4,
-        [P, 0, 4, 0, 9, 9, 9, 9, 9, 9, 9, 9, 9, 9],
-        [4294967295, 0, 9, 9, 9, 9, 9],
-    );
+    over_both(b"the left value's 7 ahead of its count's 13");
 }

@@ -14,7 +14,7 @@ fn main() {
     opening::counts();
     opening::room();
     reading::handed();
-    reading::states_refused();
+    reading::turns();
     reading::room();
     gates::operations();
     gates::turns();

@@ -49,6 +49,14 @@ fn counted(case: &[u8], num_read: u32, num_eval: u32) {
     open(case, num_read, num_eval, states::exact());
 }
 
+fn lent(case: &[u8], values: usize, counts: usize, nodes: usize) {
+    open(case, 1, 4, states::lent(values, counts, nodes));
+}
+
+fn over_nothing(case: &[u8], num_read: u32, num_eval: u32) {
+    open(case, num_read, num_eval, states::lent(0, 0, 0));
+}
+
 pub fn counts() {
     counted(b"counts 1 and 4", 1, 4);
     counted(b"num_eval 1 is no multiple of 4 and passes", 1, 1);
@@ -67,11 +75,11 @@ pub fn counts() {
 }
 
 pub fn room() {
-    open(b"values one short", 1, 4, states::lent(11, 6, 51));
-    open(b"counts one short", 1, 4, states::lent(12, 5, 51));
-    open(b"nodes one short", 1, 4, states::lent(12, 6, 50));
-    open(b"room to spare", 1, 4, states::lent(14, 7, 52));
-    open(b"1 ahead of 6", 2, 32765, states::lent(0, 0, 0));
-    open(b"2 ahead of 6", 0, 4, states::lent(0, 0, 0));
-    open(b"3 ahead of 6", 1, 0, states::lent(0, 0, 0));
+    lent(b"values one short", 11, 6, 51);
+    lent(b"counts one short", 12, 5, 51);
+    lent(b"nodes one short", 12, 6, 50);
+    lent(b"room to spare", 14, 7, 52);
+    over_nothing(b"1 ahead of 6", 2, 32765);
+    over_nothing(b"2 ahead of 6", 0, 4);
+    over_nothing(b"3 ahead of 6", 1, 0);
 }

@@ -66,119 +66,79 @@ fn read(case: &[u8], state: CircuitEvaluation, ptr: u64, word: [[u64; 2]; 2], le
 }
 
 // The first step, over exact room.
-fn first(case: &[u8], ptr: u64, word: [[u64; 2]; 2]) {
-    read(case, states::state(0, 0, 5), ptr, word, states::exact());
+fn first(case: &[u8], ptr: u64, v_0: [u64; 2], v_1: [u64; 2]) {
+    read(
+        case,
+        states::state(0, 0, 5),
+        ptr,
+        [v_0, v_1],
+        states::exact(),
+    );
 }
 
-// The listing's word from any state.
-fn from(case: &[u8], state: CircuitEvaluation, lent: Lengths) {
-    read(case, state, 0, [[3, 0], [4, 0]], lent);
+// The listing's word, from another state of its circuit.
+fn after(case: &[u8], reads_done: u32, evals_done: u32, id_next: u64) {
+    let state = states::state(reads_done, evals_done, id_next);
+    read(case, state, 0, [[3, 0], [4, 0]], states::exact());
+}
+
+// From the first state of another circuit.
+fn of_counts(case: &[u8], num_read: u32, num_eval: u32, id_next: u64) {
+    let state = states::state_of(num_read, num_eval, 0, 0, id_next);
+    read(case, state, 0, [[3, 0], [4, 0]], states::exact());
+}
+
+fn lent(case: &[u8], first_cell: u64, values: usize, counts: usize, nodes: usize) {
+    let lengths = states::lent(values, counts, nodes);
+    read(
+        case,
+        states::state(0, 0, 5),
+        0,
+        [[first_cell, 0], [4, 0]],
+        lengths,
+    );
+}
+
+fn after_all_over_nothing(case: &[u8]) {
+    let lengths = states::lent(0, 0, 0);
+    read(case, states::state(1, 0, 3), 0, [[3, 0], [4, 0]], lengths);
 }
 
 pub fn handed() {
-    first(b"the listing's word", 0, [[3, 0], [4, 0]]);
-    first(b"p - 1 in each", P - 1, [[P - 1, P - 1], [P - 1, P - 1]]);
-    first(b"cell 0 is p", 0, [[P, 0], [4, 0]]);
-    first(b"cell 1 is p", 0, [[3, P], [4, 0]]);
-    first(b"cell 2 is p", 0, [[3, 0], [P, 0]]);
-    first(b"cell 3 is p", 0, [[3, 0], [4, P]]);
-    first(b"the pointer is p", P, [[3, 0], [4, 0]]);
+    first(b"the listing's word", 0, [3, 0], [4, 0]);
+    first(b"p - 1 in each", P - 1, [P - 1, P - 1], [P - 1, P - 1]);
+    first(b"cell 0 is p", 0, [P, 0], [4, 0]);
+    first(b"cell 1 is p", 0, [3, P], [4, 0]);
+    first(b"cell 2 is p", 0, [3, 0], [P, 0]);
+    first(b"cell 3 is p", 0, [3, 0], [4, P]);
+    first(b"the pointer is p", P, [3, 0], [4, 0]);
     first(
         b"cell 2 and the pointer, the first counts",
         P,
-        [[3, 0], [P, 0]],
+        [3, 0],
+        [P, 0],
     );
-    first(
-        b"a pointer need not be a multiple of 4",
-        3,
-        [[3, 0], [4, 0]],
-    );
+    first(b"a pointer need not be a multiple of 4", 3, [3, 0], [4, 0]);
 }
 
-pub fn states_refused() {
-    from(
-        b"all READ steps are done",
-        states::state(1, 0, 3),
-        states::exact(),
-    );
-    from(
-        b"all steps are done",
-        states::state(1, 4, P - 1),
-        states::exact(),
-    );
-    from(
-        b"an EVAL step done before the READ step",
-        states::state(0, 1, 4),
-        states::exact(),
-    );
-    from(
-        b"more READ steps than num_read",
-        states::state(2, 0, 1),
-        states::exact(),
-    );
-    from(
-        b"more EVAL steps than num_eval",
-        states::state(1, 5, P - 2),
-        states::exact(),
-    );
-    from(
-        b"id_next one too small",
-        states::state(0, 0, 4),
-        states::exact(),
-    );
-    from(
-        b"id_next p - 1 at the start",
-        states::state(0, 0, P - 1),
-        states::exact(),
-    );
-    from(
-        b"a state with num_read 0",
-        states::state_of(0, 4, 0, 0, 3),
-        states::exact(),
-    );
-    from(
-        b"a state with num_eval 0",
-        states::state_of(1, 0, 0, 0, 1),
-        states::exact(),
-    );
-    from(
-        b"a state of 32769 wires",
-        states::state_of(1, 32767, 0, 0, 32768),
-        states::exact(),
-    );
-    from(
-        b"a state of 32768 wires passes 13",
-        states::state_of(1, 32766, 0, 0, 32767),
-        states::exact(),
-    );
+pub fn turns() {
+    after(b"all READ steps are done", 1, 0, 3);
+    after(b"all steps are done", 1, 4, P - 1);
+    after(b"an EVAL step done before the READ step", 0, 1, 4);
+    after(b"more READ steps than num_read", 2, 0, 1);
+    after(b"more EVAL steps than num_eval", 1, 5, P - 2);
+    after(b"id_next one too small", 0, 0, 4);
+    after(b"id_next p - 1 at the start", 0, 0, P - 1);
+    of_counts(b"a state with num_read 0", 0, 4, 3);
+    of_counts(b"a state with num_eval 0", 1, 0, 1);
+    of_counts(b"a state of 32769 wires", 1, 32767, 32768);
+    of_counts(b"a state of 32768 wires passes 13", 1, 32766, 32767);
 }
 
 pub fn room() {
-    from(
-        b"values one short",
-        states::state(0, 0, 5),
-        states::lent(11, 6, 51),
-    );
-    from(
-        b"counts one short",
-        states::state(0, 0, 5),
-        states::lent(12, 5, 51),
-    );
-    from(
-        b"nodes one short",
-        states::state(0, 0, 5),
-        states::lent(12, 6, 50),
-    );
-    from(
-        b"13 ahead of 6",
-        states::state(1, 0, 3),
-        states::lent(0, 0, 0),
-    );
-    read(
-        b"6 ahead of 7",
-        states::state(0, 0, 5),
-        0,
-        [[P, 0], [4, 0]],
-        states::lent(11, 6, 51),
-    );
+    lent(b"values one short", 3, 11, 6, 51);
+    lent(b"counts one short", 3, 12, 5, 51);
+    lent(b"nodes one short", 3, 12, 6, 50);
+    after_all_over_nothing(b"13 ahead of 6");
+    lent(b"6 ahead of 7", P, 11, 6, 51);
 }

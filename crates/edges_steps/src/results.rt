@@ -8,9 +8,9 @@ use trace::CircuitEvaluation;
 use trace::HeaderAnswer;
 use trace::OutputAnswer;
 
-// The values of the listing's wires, with the last wire's own.
-fn values_with(v_0: u64, v_1: u64) -> [u64; 14] {
-    [3, 0, 4, 0, 7, 0, 12, 0, 0, 0, v_0, v_1, 9, 9]
+// The values of the listing's wires, but for the second READ wire and the last wire.
+fn values_with(read_1: u64, v_0: u64, v_1: u64) -> [u64; 14] {
+    [3, 0, read_1, 0, 7, 0, 12, 0, 0, 0, v_0, v_1, 9, 9]
 }
 
 fn output_part(
@@ -42,16 +42,38 @@ fn output(case: &[u8], state: CircuitEvaluation, lent: Lengths, values: [u64; 14
 }
 
 // All steps done, over exact room.
-fn done(case: &[u8], values: [u64; 14]) {
+fn done(case: &[u8], read_1: u64, v_0: u64, v_1: u64) {
+    let values = values_with(read_1, v_0, v_1);
     output(case, states::state(1, 4, P - 1), states::exact(), values);
 }
 
-fn from(case: &[u8], state: CircuitEvaluation, lent: Lengths) {
-    output(case, state, lent, values_with(0, 0));
+fn after(case: &[u8], reads_done: u32, evals_done: u32, id_next: u64, last: u64) {
+    let state = states::state(reads_done, evals_done, id_next);
+    output(case, state, states::exact(), values_with(4, last, 0));
 }
 
-fn finish(case: &[u8], state: CircuitEvaluation) {
+fn lent(case: &[u8], evals_done: u32, id_next: u64, values: usize, counts: usize, nodes: usize) {
+    let lengths = states::lent(values, counts, nodes);
+    output(
+        case,
+        states::state(1, evals_done, id_next),
+        lengths,
+        values_with(4, 0, 0),
+    );
+}
+
+fn no_reads(case: &[u8]) {
+    output(
+        case,
+        states::state_of(0, 4, 0, 4, P - 1),
+        states::exact(),
+        values_with(4, 0, 0),
+    );
+}
+
+fn finish(case: &[u8], num_eval: u32, evals_done: u32, id_next: u64) {
     say::name(b"finalized", case);
+    let state = states::state_of(1, num_eval, 1, evals_done, id_next);
     let answer = state.finalized();
     match answer {
         HeaderAnswer::Header(header) => {
@@ -64,71 +86,28 @@ fn finish(case: &[u8], state: CircuitEvaluation) {
 }
 
 pub fn outputs() {
-    done(b"the last wire is (0, 0)", values_with(0, 0));
-    done(b"the last wire is (1, 0)", values_with(1, 0));
-    done(b"the last wire is (0, 1)", values_with(0, 1));
-    done(b"a stored (p, 0) is not (0, 0)", values_with(P, 0));
-    done(
-        b"the last READ wire is zero, the last wire not",
-        [3, 0, 0, 0, 7, 0, 12, 0, 0, 0, 1, 0, 9, 9],
-    );
-    from(
-        b"one EVAL step lacks",
-        states::state(1, 3, 0),
-        states::exact(),
-    );
-    from(b"no step is done", states::state(0, 0, 5), states::exact());
-    from(
-        b"id_next 0 after all steps",
-        states::state(1, 4, 0),
-        states::exact(),
-    );
-    from(
-        b"a state with num_read 0",
-        states::state_of(0, 4, 0, 4, P - 1),
-        states::exact(),
-    );
-    from(
-        b"values one short",
-        states::state(1, 4, P - 1),
-        states::lent(11, 6, 51),
-    );
-    from(
-        b"counts one short",
-        states::state(1, 4, P - 1),
-        states::lent(12, 5, 51),
-    );
-    from(
-        b"nodes one short",
-        states::state(1, 4, P - 1),
-        states::lent(12, 6, 50),
-    );
-    from(
-        b"13 ahead of 6",
-        states::state(1, 4, 0),
-        states::lent(0, 0, 0),
-    );
-    from(
-        b"6 ahead of 11",
-        states::state(1, 3, 0),
-        states::lent(12, 6, 50),
-    );
-    output(
-        b"11 ahead of 12",
-        states::state(1, 3, 0),
-        states::exact(),
-        values_with(1, 0),
-    );
+    done(b"the last wire is (0, 0)", 4, 0, 0);
+    done(b"the last wire is (1, 0)", 4, 1, 0);
+    done(b"the last wire is (0, 1)", 4, 0, 1);
+    done(b"a stored (p, 0) is not (0, 0)", 4, P, 0);
+    done(b"the last READ wire is zero, the last wire not", 0, 1, 0);
+    after(b"one EVAL step lacks", 1, 3, 0, 0);
+    after(b"no step is done", 0, 0, 5, 0);
+    after(b"id_next 0 after all steps", 1, 4, 0, 0);
+    no_reads(b"a state with num_read 0");
+    lent(b"values one short", 4, P - 1, 11, 6, 51);
+    lent(b"counts one short", 4, P - 1, 12, 5, 51);
+    lent(b"nodes one short", 4, P - 1, 12, 6, 50);
+    lent(b"13 ahead of 6", 4, 0, 0, 0, 0);
+    lent(b"6 ahead of 11", 3, 0, 12, 6, 50);
+    after(b"11 ahead of 12", 1, 3, 0, 1);
 }
 
 pub fn finished() {
-    finish(b"all steps are done", states::state(1, 4, P - 1));
-    finish(b"one EVAL step lacks", states::state(1, 3, 0));
-    finish(b"only the READ step is done", states::state(1, 0, 3));
-    finish(b"13 ahead of 11", states::state(1, 3, 1));
-    finish(b"more EVAL steps than num_eval", states::state(1, 5, P - 2));
-    finish(
-        b"a state of 32769 wires",
-        states::state_of(1, 32767, 1, 32767, P - 1),
-    );
+    finish(b"all steps are done", 4, 4, P - 1);
+    finish(b"one EVAL step lacks", 4, 3, 0);
+    finish(b"only the READ step is done", 4, 0, 3);
+    finish(b"13 ahead of 11", 4, 3, 1);
+    finish(b"more EVAL steps than num_eval", 4, 5, P - 2);
+    finish(b"a state of 32769 wires", 32767, 32767, P - 1);
 }

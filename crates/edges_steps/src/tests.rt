@@ -44,6 +44,11 @@ fn counted(case: &[u8], num_read: u32, num_eval: u32) {
     );
 }
 
+fn lent(case: &[u8], id_next: u64, values: usize, counts: usize, nodes: usize) {
+    let lengths = states::lent(values, counts, nodes);
+    test(case, states::header_of(1, 4, id_next), lengths);
+}
+
 fn with_value(case: &[u8], at: usize, cell: u64) {
     let mut values = [cells::CANARY; 14];
     if at < 14 {
@@ -93,32 +98,12 @@ pub fn counts() {
 }
 
 pub fn cells_tested() {
-    test(
-        b"values one short",
-        states::header_of(1, 4, P - 1),
-        states::lent(11, 6, 51),
-    );
-    test(
-        b"counts one short",
-        states::header_of(1, 4, P - 1),
-        states::lent(12, 5, 51),
-    );
-    test(
-        b"nodes one short",
-        states::header_of(1, 4, P - 1),
-        states::lent(12, 6, 50),
-    );
-    test(
-        b"6 ahead of 17",
-        states::header_of(1, 4, P),
-        states::lent(12, 6, 50),
-    );
-    test(b"id_next p", states::header_of(1, 4, P), states::exact());
-    test(
-        b"any id_next below p passes",
-        states::header_of(1, 4, 77),
-        states::exact(),
-    );
+    lent(b"values one short", P - 1, 11, 6, 51);
+    lent(b"counts one short", P - 1, 12, 5, 51);
+    lent(b"nodes one short", P - 1, 12, 6, 50);
+    lent(b"6 ahead of 17", P, 12, 6, 50);
+    lent(b"id_next p", P, 12, 6, 51);
+    lent(b"any id_next below p passes", 77, 12, 6, 51);
     with_value(b"the first value cell is p", 0, P);
     with_value(b"the last used value cell is p", 11, P);
     with_value(b"p past the used value cells passes", 12, P);
