@@ -65,3 +65,8 @@ addedTo (refused number place) a e = a
 
 abbrev pub listAfter : Ace → Entry → Ace
 listAfter a e = addedTo (addAnswer a e) a e
+
+-- runs added one after the other, whatever each answers
+unfoldable pub addedAll : List Entry → Ace → Ace
+addedAll [] a = a
+addedAll (e ∷ es) a = addedAll es (listAfter a e)

@@ -1,8 +1,6 @@
 // The entries of a run list, those in use first.
 ghost use mathlib.Core.Path.{_≡_};
-ghost use mathlib.Core.Bool.{_&&_};
 ghost use Prim.Native.Nat.{_≤_, _<_};
-ghost use lib.Dec.{ltb, eqb};
 ghost use lib.ListN.{take};
 ghost use Rattle.runs.specs.Entries.{total};
 ghost use Rattle.runs.specs.Calls.{mostRuns, used, soundList};

@@ -1,57 +1,55 @@
-use Rattle.runs.proofs.Ace.insert_at.Statement.{statement}
+-- `runs::Ace::insert_at` meets its contract.
+-- Assumes nothing.
+use mathlib.Core.Path.{_≡_}
+use Prim.Native.Nat.{_+_, _-_}
+use lib.ListN.{length}
+use borrow.Author.Needs.{needs}
+use Rattle.runs.proofs.Held.{held}
+use Rattle.runs.proofs.Scans.{Moved, moved-start, moved-on, moved-end}
 use Rattle.runs.proofs.Ace.insert_at.Tie as tie
-use Rattle.runs.proofs.Ace.insert_at.Reads as reads
-use Rattle.runs.proofs.Ace.insert_at.Lts as lts
+use Rattle.runs.proofs.Ace.insert_at.Statement.{statement}
 
 abbrev Inv-loop : tie.InvT-loop
-Inv-loop at self₀ len carried₀ i₀ self carried i = ?
+Inv-loop at self₀ len carried₀ i₀ self carried i = Moved self₀ at carried₀ self carried i
 
 abbrev μ-loop : tie.MeasureT-loop
-μ-loop at self₀ len carried₀ i₀ self carried i = ?
+μ-loop at self₀ len carried₀ i₀ self carried i = self₀ .len + 1 - i
 
--- src/entries.rt:99:19
+long : (s : tie.Start Inv-loop μ-loop) → length (s .args .t1 .entries) ≡ 32
+long s = held (s .args .t1) _ (s .good .0)
+
 cast-len : tie.Need-cast-len Inv-loop μ-loop
-cast-len c = ?
+cast-len c = search needs
 
--- src/entries.rt:102:9
 loop-holds : tie.Need-loop-holds Inv-loop μ-loop
-loop-holds c = ?
+loop-holds c = moved-start _ _ _ (long c) (c .pre .0) (c .pre .1)
 
--- src/entries.rt:103:24
 mul-next : tie.Need-mul-next Inv-loop μ-loop
-mul-next c = ?
+mul-next c = search needs
 
--- src/entries.rt:103:24
 element-copy-out-next : tie.Need-element-copy-out-next Inv-loop μ-loop
-element-copy-out-next c = ?
+element-copy-out-next c = search needs
 
--- src/entries.rt:104:13
 mul-carried : tie.Need-mul-carried Inv-loop μ-loop
-mul-carried c = ?
+mul-carried c = search needs
 
--- src/entries.rt:104:13
 element-set-from-carried : tie.Need-element-set-from-carried Inv-loop μ-loop
-element-set-from-carried c = ?
+element-set-from-carried c = search needs
 
--- src/entries.rt:106:13
 add-i : tie.Need-add-i Inv-loop μ-loop
-add-i c = ?
+add-i c = search needs
 
--- src/entries.rt:102:9
 loop-less : tie.Need-loop-less Inv-loop μ-loop
-loop-less c = ?
+loop-less c = search needs
 
--- src/entries.rt:102:9
 loop-again : tie.Need-loop-again Inv-loop μ-loop
-loop-again c = ?
+loop-again c = moved-on _ _ _ _ _ _ (c .before .before .loop .inv) (long (c .before .before .before)) (c .before .before .before .pre .1) (c .before .loop-test .taken)
 
--- src/entries.rt:108:9
 add-self : tie.Need-add-self Inv-loop μ-loop
-add-self c = ?
+add-self c = search needs
 
--- src/entries.rt:95:5
 returns : tie.Need-returns Inv-loop μ-loop
-returns c = ?
+returns c = moved-end _ _ _ _ _ _ (c .before .loop .inv) (c .loop-test .left)
 
 pub insert-at-spec : {M : Type 1} → statement M
 insert-at-spec =

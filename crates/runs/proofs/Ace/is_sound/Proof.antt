@@ -1,81 +1,73 @@
-use Rattle.runs.proofs.Ace.is_sound.Statement.{statement}
+-- `runs::Ace::is_sound` meets its contract.
+-- Assumes nothing.
+use mathlib.Core.Path.{_≡_}
+use Prim.Native.Nat.{_-_}
+use lib.ListN.{length}
+use borrow.Author.Needs.{needs}
+use Rattle.runs.proofs.Held.{held}
+use Rattle.runs.proofs.Scans.{Ordered, ordered-start, ordered-on, ordered-end, sound-long, clock-low, counts-bad}
 use Rattle.runs.proofs.Ace.is_sound.Tie as tie
-use Rattle.runs.proofs.Ace.is_sound.Reads as reads
-use Rattle.runs.proofs.Ace.is_sound.Lts as lts
-use Rattle.trace.proofs.counts.test_counts.Reads as test-counts-reads
+use Rattle.runs.proofs.Ace.is_sound.Statement.{statement}
 
 abbrev Inv-loop : tie.InvT-loop
-Inv-loop self len least₀ i₀ least i = ?
+Inv-loop self len least₀ i₀ least i = Ordered self least i
 
 abbrev μ-loop : tie.MeasureT-loop
-μ-loop self len least₀ i₀ least i = ?
+μ-loop self len least₀ i₀ least i = self .len - i
 
--- src/entries.rt:22:19
+long : (s : tie.Start Inv-loop μ-loop) → length (s .args .t1 .entries) ≡ 32
+long s = held (s .args .t1) _ (s .good .0)
+
 cast-len : tie.Need-cast-len Inv-loop μ-loop
-cast-len c = ?
+cast-len c = search needs
 
--- src/entries.rt:24:13
 returns : tie.Need-returns Inv-loop μ-loop
-returns c = ?
+returns c = sound-long _ (search needs)
 
--- src/entries.rt:28:9
 loop-holds : tie.Need-loop-holds Inv-loop μ-loop
-loop-holds c = ?
+loop-holds c = ordered-start _ (search needs)
 
--- src/entries.rt:29:25
 mul-entry : tie.Need-mul-entry Inv-loop μ-loop
-mul-entry c = ?
+mul-entry c = search needs
 
--- src/entries.rt:29:25
 element-copy-out-entry : tie.Need-element-copy-out-entry Inv-loop μ-loop
-element-copy-out-entry c = ?
+element-copy-out-entry c = search needs
 
--- src/entries.rt:30:17
 cast-if2 : tie.Need-cast-if2 Inv-loop μ-loop
-cast-if2 c = ?
+cast-if2 c = search needs
 
--- src/entries.rt:31:17
 returns-2 : tie.Need-returns-2 Inv-loop μ-loop
-returns-2 c = ?
+returns-2 c = clock-low _ _ _ (c .before .before .before .before .loop .inv) (long (c .before .before .before .before .before .before)) (search needs) (search needs)
 
--- src/entries.rt:33:34
 test-counts-requires : tie.Need-test-counts-requires Inv-loop μ-loop
-test-counts-requires c κs = ?
+test-counts-requires c κs = search needs
 
 enum-told : tie.Need-enum-told Inv-loop μ-loop
-enum-told c = ?
+enum-told c = search needs
 
--- src/entries.rt:34:17
 enum-told-2 : tie.Need-enum-told-2 Inv-loop μ-loop
-enum-told-2 c = ?
+enum-told-2 c = search needs
 
--- src/entries.rt:34:17
 returns-3 : tie.Need-returns-3 Inv-loop μ-loop
-returns-3 c = ?
+returns-3 c = counts-bad _ _ _ _ _ _ (c .before .before .before .before .before .before .before .loop .inv) (long (c .before .before .before .before .before .before .before .before .before)) (search needs) (c .before .before .test-counts .ensures) (c .enum-told2 .given .1)
 
--- src/entries.rt:36:21
 cast-least : tie.Need-cast-least Inv-loop μ-loop
-cast-least c = ?
+cast-least c = search needs
 
--- src/entries.rt:36:21
 add-least : tie.Need-add-least Inv-loop μ-loop
-add-least c = ?
+add-least c = search needs
 
--- src/entries.rt:37:13
 add-i : tie.Need-add-i Inv-loop μ-loop
-add-i c = ?
+add-i c = search needs
 
--- src/entries.rt:28:9
 loop-less : tie.Need-loop-less Inv-loop μ-loop
-loop-less c = ?
+loop-less c = search needs
 
--- src/entries.rt:28:9
 loop-again : tie.Need-loop-again Inv-loop μ-loop
-loop-again c = ?
+loop-again c = ordered-on _ _ _ _ (c .before .before .before .before .before .before .before .before .loop .inv) (long (c .before .before .before .before .before .before .before .before .before .before)) (search needs) (search needs) (c .before .before .before .test-counts .ensures) (c .before .enum-told .given .1)
 
--- src/entries.rt:19:5
 returns-4 : tie.Need-returns-4 Inv-loop μ-loop
-returns-4 c = ?
+returns-4 c = ordered-end _ _ _ (c .before .loop .inv) (search needs)
 
 pub is-sound-spec : {M : Type 1} → statement M
 is-sound-spec =

@@ -1,49 +1,49 @@
-use Rattle.runs.proofs.Ace.place_of.Statement.{statement}
+-- `runs::Ace::place_of` meets its contract.
+-- Assumes nothing.
+use mathlib.Core.Path.{_≡_}
+use Prim.Native.Nat.{_-_}
+use lib.ListN.{length}
+use borrow.Author.Needs.{needs}
+use Rattle.runs.proofs.Held.{held}
+use Rattle.runs.proofs.Scans.{Searched, search-start, search-on, search-ends, search-all}
 use Rattle.runs.proofs.Ace.place_of.Tie as tie
-use Rattle.runs.proofs.Ace.place_of.Reads as reads
-use Rattle.runs.proofs.Ace.place_of.Lts as lts
+use Rattle.runs.proofs.Ace.place_of.Statement.{statement}
 
 abbrev Inv-loop : tie.InvT-loop
-Inv-loop clk self len at₀ at = ?
+Inv-loop clk self len at₀ at = Searched self clk at
 
 abbrev μ-loop : tie.MeasureT-loop
-μ-loop clk self len at₀ at = ?
+μ-loop clk self len at₀ at = self .len - at
 
--- src/entries.rt:62:19
+long : (s : tie.Start Inv-loop μ-loop) → length (s .args .t1 .entries) ≡ 32
+long s = held (s .args .t1) _ (s .good .0)
+
 cast-len : tie.Need-cast-len Inv-loop μ-loop
-cast-len c = ?
+cast-len c = search needs
 
--- src/entries.rt:64:9
 loop-holds : tie.Need-loop-holds Inv-loop μ-loop
-loop-holds c = ?
+loop-holds c = search-start _ _
 
--- src/entries.rt:65:25
 mul-entry : tie.Need-mul-entry Inv-loop μ-loop
-mul-entry c = ?
+mul-entry c = search needs
 
--- src/entries.rt:65:25
 element-copy-out-entry : tie.Need-element-copy-out-entry Inv-loop μ-loop
-element-copy-out-entry c = ?
+element-copy-out-entry c = search needs
 
--- src/entries.rt:67:17
 returns : tie.Need-returns Inv-loop μ-loop
-returns c = ?
+returns c = search-ends _ _ _ (c .before .before .before .before .loop .inv) (long (c .before .before .before .before .before)) (c .before .before .before .before .before .pre) (c .before .before .before .loop-test .taken) (search needs)
 
--- src/entries.rt:69:13
 add-at : tie.Need-add-at Inv-loop μ-loop
-add-at c = ?
+add-at c = search needs
 
--- src/entries.rt:64:9
 loop-less : tie.Need-loop-less Inv-loop μ-loop
-loop-less c = ?
+loop-less c = search needs
 
--- src/entries.rt:64:9
 loop-again : tie.Need-loop-again Inv-loop μ-loop
-loop-again c = ?
+loop-again c = search-on _ _ _ (c .before .before .before .before .loop .inv) (long (c .before .before .before .before .before)) (c .before .before .before .before .before .pre) (c .before .before .before .loop-test .taken) (search needs)
 
--- src/entries.rt:58:5
 returns-2 : tie.Need-returns-2 Inv-loop μ-loop
-returns-2 c = ?
+returns-2 c = search-all _ _ _ (c .before .loop .inv) (c .loop-test .left)
 
 pub place-of-spec : {M : Type 1} → statement M
 place-of-spec =
