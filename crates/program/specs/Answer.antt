@@ -8,7 +8,7 @@ use lib.ListN.{length, replicate}
 use lib.Seq.{sets}
 use Rattle.field.specs.Told.{Told, accepted, refused, orElse}
 use Rattle.trace.specs.Outcome.{Lent, lent}
-use Rattle.eval_circuit.specs.Circuit.{Circuit}
+use Rattle.eval_circuit.specs.Circuit.{Circuit, numWires}
 use Rattle.eval_circuit.specs.Evaluated.{circuitAt, evalAnswer}
 use Rattle.rows.specs.ByWire.{circuitRows}
 use Rattle.program.specs.Input.{ctxIn, clkIn, ptrIn, varsIn, evalsIn, memoryIn, inputAnswer}
@@ -18,13 +18,6 @@ use Rattle.program.specs.Text.{lines}
 abbrev pub here : Lent
 here = lent (replicate 256 0) (replicate 128 0) (replicate 1408 0)
 
-abbrev pub evaluated : List ℕ → Told
-evaluated s = evalAnswer (ctxIn s) (clkIn s) (ptrIn s) (varsIn s) (evalsIn s) (memoryIn s) here
-
--- "then evaluation"
-unfoldable pub programAnswer : List ℕ → Told
-programAnswer s = orElse (inputAnswer s) (evaluated s)
-
 -- "refuse " and "accept "
 abbrev pub refuse : List ℕ
 refuse = 114 ∷ 101 ∷ 102 ∷ 117 ∷ 115 ∷ 101 ∷ 32 ∷ []
@@ -32,25 +25,27 @@ refuse = 114 ∷ 101 ∷ 102 ∷ 117 ∷ 115 ∷ 101 ∷ 32 ∷ []
 abbrev pub accept : List ℕ
 accept = 97 ∷ 99 ∷ 99 ∷ 101 ∷ 112 ∷ 116 ∷ 32 ∷ []
 
-abbrev pub circuitIn : List ℕ → Circuit
-circuitIn s = circuitAt (memoryIn s) (ptrIn s) (varsIn s) (evalsIn s)
-
--- "the first line gives rows and wires"
-abbrev pub acceptText : List ℕ → List ℕ
-acceptText s =
-    accept
-    ++ (lines 2 ((varsIn s / 2 + evalsIn s) ∷ (varsIn s + evalsIn s) ∷ [])
-    ++ lines 16 (circuitRows (ctxIn s) (clkIn s) (ptrIn s) (circuitIn s)))
-
 abbrev pub refuseText : ℕ → List ℕ
 refuseText number = refuse ++ lines 1 (number ∷ [])
 
+-- "the first line gives rows and wires"
+abbrev pub acceptText : ℕ → ℕ → List ℕ → List ℕ
+acceptText num-rows num-wires rows = accept ++ (lines 2 (num-rows ∷ num-wires ∷ []) ++ lines 16 rows)
+
+abbrev pub circuitText : ℕ → ℕ → ℕ → Circuit → List ℕ
+circuitText ctx clk ptr c = acceptText (c .vars / 2 + c .gates) (numWires c) (circuitRows ctx clk ptr c)
+
+-- an answer as text, with the text that is written where it is accepted
 abbrev pub textOf : Told → List ℕ → List ℕ
-textOf (accepted vs) s = acceptText s
-textOf (refused number place) s = refuseText number
+textOf (accepted vs) text = text
+textOf (refused number place) text = refuseText number
+
+-- "then evaluation"
+unfoldable pub programAnswer : List ℕ → Told
+programAnswer s = orElse (inputAnswer s) (evalAnswer (ctxIn s) (clkIn s) (ptrIn s) (varsIn s) (evalsIn s) (memoryIn s) here)
 
 unfoldable pub programText : List ℕ → List ℕ
-programText s = textOf (programAnswer s) s
+programText s = textOf (programAnswer s) (circuitText (ctxIn s) (clkIn s) (ptrIn s) (circuitAt (memoryIn s) (ptrIn s) (varsIn s) (evalsIn s)))
 
 -- no text is longer
 abbrev pub mostText : ℕ

@@ -1,4 +1,5 @@
 pub mod Input
 pub mod Text
 pub mod Answer
+pub mod Listing
 pub mod Inside

@@ -79,13 +79,12 @@ module _ (h : RecordHeader) (b : Lent) (offset : ℕ) (rows : List ℕ) where
       let reads = each (recordReadRow h (b .counts) (b .nodes)) (h .«num_read») in
       let evals = each (recordEvalRow h (b .counts) (b .nodes)) (h .«num_eval») in
       let q = enough-rows offset (numRows h) (length rows) (accepted []) l ∙ passed e in
-      let place : 16 * (offset + h .«num_read») ≡ 16 * offset + length reads = omega (arith, each-length (recordReadRow h (b .counts) (b .nodes)) 16 (λ k. refl) (h .«num_read»)) in
-      (
+      let place : 16 * (offset + h .«num_read») ≡ 16 * offset + length reads = omega (arith, each-length (recordReadRow h (b .counts) (b .nodes)) 16 (λ k. refl) (h .«num_read»)) in (
         q,
         ef
-        ∙ ap₂ (λ (x : List ℕ) (k : ℕ). sets x k evals) er place
-        ∙ sets-append reads evals rows (16 * offset)
-        ∙ ap (λ (t : Told). changed t (rowsWritten h b offset rows) rows) q,
+            ∙ ap₂ (λ (x : List ℕ) (k : ℕ). sets x k evals) er place
+            ∙ sets-append reads evals rows (16 * offset)
+            ∙ ap (λ (t : Told). changed t (rowsWritten h b offset rows) rows) q,
       )
 
 module _ (s : CircuitEvaluation) (b : Lent) (offset : ℕ) (rows : List ℕ) where
@@ -101,10 +100,9 @@ module _ (s : CircuitEvaluation) (b : Lent) (offset : ℕ) (rows : List ℕ) whe
   unfolding fillStateAnswer
   state-fills h t filled e et er =
       let same = finalized-header h s e in
-      let goes = finalized-goes s (headerNumbers (headerOf s)) (headerNumbers h) (fillAnswer (headerOf s) b offset rows) e in
-      (
+      let goes = finalized-goes s (headerNumbers (headerOf s)) (headerNumbers h) (fillAnswer (headerOf s) b offset rows) e in (
         et ∙ ap (λ (k : RecordHeader). fillAnswer k b offset rows) same ∙ goes,
         er
-        ∙ ap (λ (k : RecordHeader). filledRows k b offset rows) same
-        ∙ ap (λ (x : Told). changed x (rowsWritten (headerOf s) b offset rows) rows) goes,
+            ∙ ap (λ (k : RecordHeader). filledRows k b offset rows) same
+            ∙ ap (λ (x : Told). changed x (rowsWritten (headerOf s) b offset rows) rows) goes,
       )
