@@ -6,7 +6,7 @@ import pathlib
 import re
 import sys
 
-COUNTS = "new eval_circuit add_circuit_evaluation program"
+COUNTS = "test_counts new eval_circuit add_circuit_evaluation program"
 RECORD = "test fill write_into"
 STATE = "fill_state write_state_into"
 STEPS = "do_read do_eval output_value"

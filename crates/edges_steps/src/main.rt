@@ -13,6 +13,7 @@ mod tests;
 fn main() {
     opening::counts();
     opening::room();
+    opening::counts_alone();
     reading::handed();
     reading::turns();
     reading::room();

@@ -6,6 +6,8 @@ use crate::states;
 use crate::states::Lengths;
 use trace::CircuitEvaluation;
 use trace::OpenAnswer;
+use trace::Tested;
+use trace::counts::test_counts;
 
 fn open_part(
     num_read: u32,
@@ -82,4 +84,27 @@ pub fn room() {
     over_nothing(b"1 ahead of 6", 2, 32765);
     over_nothing(b"2 ahead of 6", 0, 4);
     over_nothing(b"3 ahead of 6", 1, 0);
+}
+
+fn test(case: &[u8], num_read: u32, num_eval: u32) {
+    say::name(b"test_counts", case);
+    let answer = test_counts(num_read, num_eval);
+    match answer {
+        Tested::Passed => say::accepted(),
+        Tested::Refused(refusal, place) => say::refused(refusal, place),
+    }
+    say::end();
+}
+
+pub fn counts_alone() {
+    test(b"32768 wires", 2, 32764);
+    test(b"32769 wires", 2, 32765);
+    test(b"the largest counts", 4294967295, 4294967295);
+    test(b"num_read 16384 passes 1, num_eval 0", 16384, 0);
+    test(b"1 ahead of 3", 16385, 0);
+    test(b"1 ahead of 2", 0, 32769);
+    test(b"num_read 0", 0, 4);
+    test(b"2 ahead of 3", 0, 0);
+    test(b"num_eval 0", 1, 0);
+    test(b"num_eval 1 is no multiple of 4 and passes", 1, 1);
 }
