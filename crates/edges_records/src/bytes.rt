@@ -1,0 +1,1 @@
+../../edges/src/bytes.rt
