@@ -16,6 +16,8 @@ REPLACED = [
     # a module that sees private fields (opened.rs)
     (TRACE, "use super::{\n", "mod opened;\npub use opened::Opened;\n\nuse super::{\n"),
     (MOD, "pub use trace::CircuitEvaluation;\n", "pub use trace::{CircuitEvaluation, Opened};\n"),
+    # decode, to be called alone (steps.rs)
+    (MOD, "mod instruction;\n", "pub mod instruction;\n"),
     # what the cut below leaves unused
     (EVAL_CIRCUIT, "    processor::{MemoryInterface, Processor, StackInterface, SystemInterface},\n",
      "    processor::MemoryInterface,\n"),

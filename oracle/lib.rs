@@ -1,5 +1,6 @@
 //! The root of the Rust's crate, as far as its ACE chiplet needs one, the call of its whole evaluation over
-//! a flat memory, its rows (columns.rs) and its records (records.rs).
+//! a flat memory, its steps (steps.rs), its rows (columns.rs), its records (records.rs) and its run list
+//! (runs.rs).
 
 extern crate alloc;
 
@@ -13,9 +14,13 @@ mod columns;
 mod errors;
 mod memory;
 mod records;
+mod runs;
+mod steps;
 
 pub use columns::Row;
 pub use records::{Failed, Tried, try_read};
+pub use runs::{Run, Runs};
+pub use steps::decode;
 
 mod execution {
     pub mod operations {
@@ -42,15 +47,17 @@ mod processor {
 }
 
 mod trace {
-    use miden_air::trace::chiplets::ace::ACE_CHIPLET_NUM_COLS;
-    use miden_core::Felt;
+    use std::borrow::Borrow;
+
+    use miden_air::{AceCols, trace::chiplets::ace::ACE_CHIPLET_NUM_COLS};
+    use miden_core::{Felt, field::PrimeCharacteristicRing};
 
     pub mod chiplets {
         mod ace;
 
         pub use ace::{
-            CircuitEvaluation, MAX_EVAL_CIRCUIT_WIRES, MAX_NUM_ACE_WIRES, Opened, PTR_OFFSET_ELEM,
-            PTR_OFFSET_WORD,
+            Ace, CircuitEvaluation, MAX_EVAL_CIRCUIT_WIRES, MAX_NUM_ACE_WIRES, Opened,
+            PTR_OFFSET_ELEM, PTR_OFFSET_WORD, instruction,
         };
     }
 
@@ -58,6 +65,16 @@ mod trace {
     pub struct ChipletTraceFragment(Vec<Felt>);
 
     impl ChipletTraceFragment {
+        pub fn of_rows(rows: usize) -> ChipletTraceFragment {
+            ChipletTraceFragment(Felt::zero_vec(rows * ACE_CHIPLET_NUM_COLS))
+        }
+
+        pub fn rows(&self) -> impl Iterator<Item = &AceCols<Felt>> {
+            self.0
+                .chunks_exact(ACE_CHIPLET_NUM_COLS)
+                .map(Borrow::borrow)
+        }
+
         pub fn len(&self) -> usize {
             self.0.len() / ACE_CHIPLET_NUM_COLS
         }

@@ -6,10 +6,13 @@ use miden_core::{Felt, field::QuadFelt};
 use super::{CircuitEvaluation, EvalNode, ReadNode, WireBus};
 use crate::ContextId;
 
-#[derive(Clone, PartialEq)]
+/// `num_wires` is what the whole circuit has; the rest goes as far as its steps are done, `num_read` and
+/// `num_eval` with it.
+#[derive(Clone, Debug, PartialEq)]
 pub struct Opened {
     pub ctx: u32,
     pub clk: u32,
+    pub num_wires: u32,
     pub num_read: u32,
     pub num_eval: u32,
     pub id_next: u64,
@@ -79,8 +82,8 @@ fn eval_node(cells: &[u64]) -> EvalNode {
 }
 
 impl Opened {
-    /// The Rust's own evaluation of which this is what it keeps. Cells are elements, as many as the counts
-    /// need.
+    /// The Rust's own evaluation of which this is what it keeps. Cells are elements, as many as wires and
+    /// nodes need.
     pub fn closed(&self) -> CircuitEvaluation {
         let wires = self.values.chunks_exact(2).zip(&self.counts);
         let (reads, evals) = self.nodes.split_at(7 * self.num_read as usize);
@@ -90,7 +93,7 @@ impl Opened {
             wire_bus: WireBus {
                 id_next: felt(self.id_next),
                 wires: wires.map(|(v, &m)| (quad(v[0], v[1]), m)).collect(),
-                num_wires: 2 * self.num_read + self.num_eval,
+                num_wires: self.num_wires,
             },
             read_nodes: reads.chunks_exact(7).map(read_node).collect(),
             eval_nodes: evals.chunks_exact(11).map(eval_node).collect(),
@@ -107,6 +110,7 @@ impl CircuitEvaluation {
         Opened {
             ctx: self.ctx(),
             clk: self.clk(),
+            num_wires: self.wire_bus.num_wires,
             num_read: self.num_read_rows(),
             num_eval: self.num_eval_rows(),
             id_next: self.wire_bus.id_next.as_canonical_u64(),

@@ -1,15 +1,21 @@
 #!/usr/bin/env python3
 """Holds docs/CONTRACTS.md to the code: it names every public function and no other, and every
 must-fail edit and no other; and each public function's contract determines its outcome by form: no
-`requires`, an `ensures` that names the result, and `.exit` of every `&mut` parameter. A method is
-public with its type wherever its block stands, so those of private modules say `pub(crate)`."""
+`requires`, an `ensures` that names the result, and `.exit` of every `&mut` parameter. The line of each
+also cites the theorem of crates/determined that any two outcomes of that function are the same. A method
+is public with its type wherever its block stands, so those of private modules say `pub(crate)`."""
 import pathlib
 import re
 import sys
 
 PAPER = pathlib.Path("docs/CONTRACTS.md")
+PROOFS = pathlib.Path("crates/determined/proofs")
 FUNCTION = re.compile(r"\bpub\s+(?:extern\s+\"C\"\s+)?fn\s+(\w+)\s*(?:<[^>]*>)?\s*\(")
 CLAUSE = re.compile(r"\s*(requires|ensures)\b\s*\w*\s*\{")
+ROW = re.compile(r"^\| `(\w+(?:::\w+)+)`(?: \|[^|]*\| `([\w-]+)` \|)?", re.M)
+USE = re.compile(r"^use Rattle·(\w+)\.proofs\.([\w.]+) as ([\w-]+)$", re.M)
+LEARNT = re.compile(r"^pub ([\w-]+) : Determined ([\w-]+)\.ended \2\.Reads\.Learnt$", re.M)
+CLAUSES = re.compile(r"^pub ([\w-]+) : ClausesDetermined ([\w-]+)\.ended \(λ M 𝓤\. \2\.clauses 𝓤\)$", re.M)
 
 
 def without_comments(text):
@@ -50,7 +56,7 @@ def faults(parameters, result, clauses):
 
 
 def functions(text, path):
-    """The public functions of a file: the path of each, and what its contract lacks."""
+    """The public functions of a file: path, parameters, result and clauses of each."""
     for found in FUNCTION.finditer(text):
         end = closing(text, found.end() - 1)
         parameters = text[found.end():end]
@@ -60,7 +66,7 @@ def functions(text, path):
             at = closing(text, clause.end() - 1) + 1
             clauses.append((clause.group(1), text[clause.end():at - 1]))
         name = path + owner(text, found.start()) + found.group(1)
-        yield name, list(faults(parameters, head.group(1), clauses))
+        yield name, parameters, head.group(1), clauses
 
 
 def modules(file, path=""):
@@ -75,10 +81,10 @@ def modules(file, path=""):
 
 
 def public(crate):
-    """The public functions of a crate."""
+    """The public functions of a crate, and what the contract of each lacks."""
     for file, path in modules(crate / "src/lib.rt", f"{crate.name}::"):
         text = without_comments(file.read_text("utf-8"))
-        yield from functions(text, path)
+        yield from ((name, list(faults(*contract))) for name, *contract in functions(text, path))
         for name in re.findall(r"\bpub\s+use\s+([^;]+);", text):
             yield path + name, ["is passed on by `pub use`, which this check does not follow"]
 
@@ -93,9 +99,31 @@ def hidden(crate):
                 yield f"{crate.name}: {type_name}{found.group(1)} stands in a private module and is not pub(crate)"
 
 
+def theorems():
+    """The theorems of crates/determined, each with the function whose own contract it is stated over."""
+    for module in re.findall(r"^pub mod (\w+)$", (PROOFS / "Lib.antt").read_text("utf-8"), re.M):
+        text = (PROOFS / f"{module}.antt").read_text("utf-8")
+        calls = {name: f"{crate}.{path}".replace(".", "::") for crate, path, name in USE.findall(text)}
+        for theorem, name in LEARNT.findall(text) + CLAUSES.findall(text):
+            yield calls.get(name), theorem
+
+
+def undetermined(lines):
+    """The lines that cite no theorem of their function, and the theorems that no line cites."""
+    proved = list(theorems())
+    for function, theorem in lines:
+        if (function, theorem) not in proved:
+            yield f"{PAPER} cites {theorem or 'nothing'} for {function}: no theorem of {PROOFS} over its contract"
+    for function, theorem in proved:
+        if (function, theorem) not in lines:
+            yield f"{PAPER} does not cite {theorem} for {function}"
+
+
 def complaints():
     paper = PAPER.read_text("utf-8")
-    rows = re.findall(r"^\| `(\w+(?:::\w+)+)`", paper, re.M)
+    lines = ROW.findall(paper)
+    yield from undetermined(lines)
+    rows = [function for function, _ in lines]
     code = {}
     for root in sorted(pathlib.Path("crates").glob("*/src/lib.rt")):
         code.update(public(root.parents[1]))
@@ -121,4 +149,5 @@ def main():
     print(f"contracts: {PAPER} and the code agree")
 
 
-main()
+if __name__ == "__main__":
+    main()

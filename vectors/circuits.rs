@@ -46,7 +46,16 @@ pub fn sixteen() -> Circuit {
     Circuit { variables, gates }
 }
 
+/// "P12 its last word as 2305843011361177601: 12."
+pub const WORD_OF_P12: u64 = 2_305_843_011_361_177_601;
+
 impl Circuit {
+    pub fn with_gate(&self, k: usize, word: u64) -> Circuit {
+        let mut circuit = self.clone();
+        circuit.gates[k] = word;
+        circuit
+    }
+
     pub fn cells(&self) -> Vec<u64> {
         [self.variables.concat(), self.gates.clone()].concat()
     }

@@ -1,19 +1,17 @@
 //! Row fill and the record writer by hand: every refusal in its order, and where each cell goes.
 
 use crate::field::P;
-use crate::record_script::{exact, finished, record, Script, ALL};
+use crate::instruction::Buffer;
+use crate::record_script::{finished, record, Of, Records, ALL, ROWS};
 use crate::rows::WIDTH;
+use crate::script::{room, room_of, Script, NEAR_P};
+use crate::step_script::SEVEN_WIRES as SEVEN;
 use crate::steps::State;
-use crate::{Lengths, Of, Question, ROWS};
 
-/// ctx, clk, num_read and num_eval of a record of seven wires.
-const SEVEN: [u32; 4] = [5, 9, 2, 3];
 const SEVEN_ROWS: usize = 5;
 
-/// And of three wires.
+/// ctx, clk, num_read and num_eval of a record of three wires.
 const THREE: [u32; 4] = [6, 7, 1, 1];
-
-const NEAR_P: [u64; 3] = [P - 1, P, u64::MAX];
 
 /// READ and EVAL counts on both sides of refusals 21 and 19, none with room; of some a sum of 32 bits
 /// would wrap.
@@ -68,13 +66,9 @@ fn three() -> Of {
     record(THREE, P - 1)
 }
 
-fn exact_of([_, _, num_read, num_eval]: [u32; 4]) -> Lengths {
-    exact(num_read, num_eval)
-}
-
 /// Records of many shapes, and the states that have them.
-fn of_shapes(script: &mut Script) {
-    script.begin();
+fn of_shapes(records: &mut Records<'_>) {
+    records.begin();
     let shapes = [
         [0, 1],
         [0, 2],
@@ -87,83 +81,83 @@ fn of_shapes(script: &mut Script) {
     ];
     for [num_read, num_eval] in shapes {
         let opened = [num_read + 3, num_eval + 30, num_read, num_eval];
-        script.both(exact(num_read, num_eval), record(opened, P - 1));
-        script.both(exact(num_read, num_eval), Of::State(finished(opened)));
+        records.both(room(num_read, num_eval), record(opened, P - 1));
+        records.both(room(num_read, num_eval), Of::State(finished(opened)));
     }
     for [ctx, clk] in [[0, 0], [u32::MAX, 0], [0, u32::MAX], [127, 128]] {
-        script.both(ALL, record([ctx, clk, 1, 1], P - 1));
+        records.both(ALL, record([ctx, clk, 1, 1], P - 1));
     }
 }
 
 /// Each buffer exact, one short, one more, and empty.
-fn of_lengths(script: &mut Script) {
-    script.begin();
+fn of_lengths(records: &mut Records<'_>) {
+    records.begin();
     for of in [seven(), Of::State(finished(SEVEN))] {
         for buffer in 0..3 {
-            for length in [exact_of(SEVEN)[buffer] - 1, exact_of(SEVEN)[buffer] + 1, 0] {
-                let mut lent = exact_of(SEVEN);
+            for length in [room_of(SEVEN)[buffer] - 1, room_of(SEVEN)[buffer] + 1, 0] {
+                let mut lent = room_of(SEVEN);
                 lent[buffer] = length;
-                script.both(lent, of);
+                records.both(lent, of);
             }
         }
-        script.both([0; 3], of);
+        records.both([0; 3], of);
     }
 }
 
 /// Row buffers exact, one short and longer, at offsets small and large: 14.
-fn of_offsets(script: &mut Script) {
-    script.begin();
-    let lent = exact_of(SEVEN);
+fn of_offsets(records: &mut Records<'_>) {
+    records.begin();
+    let lent = room_of(SEVEN);
     for offset in [0, 1, 2, 7, 300] {
         let need = WIDTH * (offset as usize + SEVEN_ROWS);
         for rows in [need - WIDTH, need - 1, need, need + 1, need + 40] {
-            script.push(Question::Fill(lent, seven(), offset, rows));
+            records.fill(lent, seven(), offset, rows);
         }
         let state = Of::State(finished(SEVEN));
-        script.push(Question::Fill(lent, state, offset, need - 1));
-        script.push(Question::Fill(lent, state, offset, need));
+        records.fill(lent, state, offset, need - 1);
+        records.fill(lent, state, offset, need);
     }
     for rows in [0, 1, WIDTH] {
-        script.push(Question::Fill(lent, seven(), 0, rows));
+        records.fill(lent, seven(), 0, rows);
     }
     for offset in FAR_OFFSETS {
         for rows in [0, WIDTH * SEVEN_ROWS, ROWS] {
-            script.push(Question::Fill(lent, seven(), offset, rows));
+            records.fill(lent, seven(), offset, rows);
         }
         let state = Of::State(finished(SEVEN));
-        script.push(Question::Fill(lent, state, offset, ROWS));
+        records.fill(lent, state, offset, ROWS);
     }
 }
 
-fn of_counts(script: &mut Script) {
-    script.begin();
+fn of_counts(records: &mut Records<'_>) {
+    records.begin();
     for [num_read, num_eval] in COUNTS {
-        script.both(ALL, record([5, 9, num_read, num_eval], P - 1));
-        script.both([0; 3], record([5, 9, num_read, num_eval], P));
+        records.both(ALL, record([5, 9, num_read, num_eval], P - 1));
+        records.both([0; 3], record([5, 9, num_read, num_eval], P));
     }
 }
 
 /// Cells near p, each alone; the first past the used ones does not count. A count may be anything.
-fn of_cells(script: &mut Script) {
-    let [values, counts, nodes] = exact_of(THREE);
+fn of_cells(records: &mut Records<'_>) {
+    let [values, counts, nodes] = room_of(THREE);
     for i in 0..values + 2 {
         for cell in NEAR_P {
-            script.begin_with_value(i, cell);
-            script.both(ALL, three());
+            records.begin_with(Buffer::Values, i, cell);
+            records.both(ALL, three());
         }
     }
     for i in 0..nodes + 2 {
         for cell in NEAR_P {
-            script.begin_with_node(i, cell);
-            script.both(ALL, three());
+            records.begin_with(Buffer::Nodes, i, cell);
+            records.both(ALL, three());
         }
     }
     for i in 0..counts + 1 {
-        script.begin_with_count(i, u32::MAX);
-        script.both(ALL, three());
+        records.begin_with(Buffer::Counts, i, u32::MAX.into());
+        records.both(ALL, three());
     }
     for id_next in [0, 1, 2, 3, 1 << 32, P - 2, P - 1, P, P + 1, u64::MAX] {
-        script.both(ALL, record(THREE, id_next));
+        records.both(ALL, record(THREE, id_next));
     }
 }
 
@@ -208,10 +202,10 @@ fn states() -> Vec<State> {
     states
 }
 
-fn of_states(script: &mut Script) {
-    script.begin();
+fn of_states(records: &mut Records<'_>) {
+    records.begin();
     for state in states() {
-        script.both(exact_of(SEVEN), Of::State(state));
+        records.both(room_of(SEVEN), Of::State(state));
     }
     // 32,768 wires are the most; there is no room for so many.
     for [num_read, num_eval] in [
@@ -221,12 +215,12 @@ fn of_states(script: &mut Script) {
         [1, 32_767],
         [16_383, 3],
     ] {
-        script.both(ALL, Of::State(all_done(num_read, num_eval)));
+        records.both(ALL, Of::State(all_done(num_read, num_eval)));
     }
 }
 
 /// Two reasons and more at once: the earlier one is given. Each row of cases takes one reason away.
-fn of_order(script: &mut Script) {
+fn of_order(records: &mut Records<'_>) {
     let lacking = State::after(SEVEN, 2, 2);
     let unsound = State {
         id_next: 3,
@@ -244,28 +238,27 @@ fn of_order(script: &mut Script) {
     ];
     for bad in [true, false] {
         match bad {
-            true => script.begin_with_value(13, P),
-            false => script.begin(),
+            true => records.begin_with(Buffer::Values, 13, P),
+            false => records.begin(),
         }
         for of in ofs {
-            for lent in [[0; 3], exact_of(SEVEN)] {
-                for room in [0, ROWS] {
-                    script.push(Question::Fill(lent, of, 0, room));
-                    script.push(Question::Write(lent, of, 0xaa, room));
+            for lent in [[0; 3], room_of(SEVEN)] {
+                for cells in [0, ROWS] {
+                    records.fill(lent, of, 0, cells);
+                    records.write(lent, of, 0xaa, cells);
                 }
             }
         }
     }
 }
 
-pub fn questions() -> Vec<Question> {
-    let mut script = Script::new();
-    of_shapes(&mut script);
-    of_lengths(&mut script);
-    of_offsets(&mut script);
-    of_counts(&mut script);
-    of_cells(&mut script);
-    of_states(&mut script);
-    of_order(&mut script);
-    script.questions
+pub fn cases(script: &mut Script) {
+    let records = &mut Records(script);
+    of_shapes(records);
+    of_lengths(records);
+    of_offsets(records);
+    of_counts(records);
+    of_cells(records);
+    of_states(records);
+    of_order(records);
 }

@@ -1,8 +1,15 @@
-//! Which numbers in groups of seven bits the program `vectors` is asked about.
+//! Which numbers in groups of seven bits are asked about.
 
 use crate::coding::{encode, width, GROUP_BITS, HIGH_BIT, MOST_BYTES};
-use crate::numbers::{Question, BUFFER};
-use crate::{Random, P, TWO_32};
+use crate::field::P;
+use crate::instruction::{Buffer, Instruction};
+use crate::random::Random;
+use crate::script::Script;
+
+/// The bytes in use: a case lends no more of them, and all are shown where a number was to be written.
+const BUFFER: usize = 16;
+
+const TWO_32: u64 = 1 << 32;
 
 /// Two, so that a store of either byte shows in a buffer that is filled with the other.
 const FILLINGS: [u8; 2] = [0x00, 0xff];
@@ -28,7 +35,7 @@ fn edges() -> Vec<u64> {
 
 /// Up to `end`, itself left out.
 fn below(random: &mut Random, end: usize) -> usize {
-    (random.next() % end as u64) as usize
+    random.below(end as u64) as usize
 }
 
 /// As many bits as another draw says, so that every length is met.
@@ -67,13 +74,15 @@ fn any_place(random: &mut Random, number: &[u8]) -> (usize, Vec<u8>) {
     (before, bytes)
 }
 
-fn width_questions(random: &mut Random) -> Vec<Question> {
+fn of_widths(script: &mut Script, random: &mut Random) {
     let mut values = edges();
     for bit in 0..u64::BITS {
         values.extend([1 << bit, (1 << bit) - 1]);
     }
     values.extend((0..200).map(|_| any_number(random)));
-    values.into_iter().map(Question::Width).collect()
+    for value in values {
+        script.ask(Instruction::Width(value));
+    }
 }
 
 /// What is lent and the place, for a number of a length: room enough, exact and one short, from the
@@ -98,26 +107,27 @@ fn rooms(width: usize) -> [(usize, usize); 13] {
     ]
 }
 
-fn write_questions(random: &mut Random) -> Vec<Question> {
-    let mut questions = Vec::new();
+/// A number written into bytes that are alike.
+fn write(script: &mut Script, value: u64, filling: u8, lent: usize, at: usize) {
+    script.fill(Buffer::Bytes, BUFFER as u64, filling.into());
+    script.lend(Buffer::Bytes, lent);
+    script.ask(Instruction::WriteNumber(value, at as u64));
+    script.ask(Instruction::Show(Buffer::Bytes, 0, BUFFER as u64));
+}
+
+fn of_writing(script: &mut Script, random: &mut Random) {
     for value in edges() {
         for (lent, at) in rooms(width(value)) {
-            let write = |filling| Question::Write {
-                value,
-                filling,
-                lent,
-                at,
-            };
-            questions.extend(FILLINGS.map(write));
+            for filling in FILLINGS {
+                write(script, value, filling, lent, at);
+            }
         }
     }
-    questions.extend((0..300).map(|_| Question::Write {
-        value: any_number(random),
-        filling: any_byte(random),
-        lent: below(random, BUFFER + 1),
-        at: below(random, BUFFER),
-    }));
-    questions
+    for _ in 0..300 {
+        let (value, filling) = (any_number(random), any_byte(random));
+        let lent = below(random, BUFFER + 1);
+        write(script, value, filling, lent, below(random, BUFFER));
+    }
 }
 
 /// Every beginning of a number that is not all of it.
@@ -183,7 +193,13 @@ fn among(bytes: &[u8]) -> [(usize, Vec<u8>); 2] {
     ]
 }
 
-fn read_questions(random: &mut Random) -> Vec<Question> {
+fn lend_bytes(script: &mut Script, bytes: &[u8]) {
+    let cells: Vec<u64> = bytes.iter().map(|&byte| byte.into()).collect();
+    script.set_cells(Buffer::Bytes, 0, &cells);
+    script.lend(Buffer::Bytes, bytes.len());
+}
+
+fn of_reading(script: &mut Script, random: &mut Random) {
     let mut asked = Vec::new();
     for value in edges() {
         asked.extend(among(&encode(value)));
@@ -196,10 +212,10 @@ fn read_questions(random: &mut Random) -> Vec<Question> {
         asked.extend(past_the_end(&bytes));
     }
     asked.extend(random_reads(random));
-    asked
-        .into_iter()
-        .map(|(at, bytes)| Question::Read { at, bytes })
-        .collect()
+    for (at, bytes) in asked {
+        lend_bytes(script, &bytes);
+        script.ask(Instruction::ReadNumber(at as u64));
+    }
 }
 
 /// Numbers among others, numbers with one byte changed, and any bytes.
@@ -240,7 +256,7 @@ fn refused_forms() -> Vec<(usize, Vec<u8>)> {
     forms
 }
 
-fn read_below_questions(random: &mut Random) -> Vec<Question> {
+fn of_reading_below(script: &mut Script, random: &mut Random) {
     let mut asked = Vec::new();
     for bound in BOUNDS {
         let values = [around(bound), edges()].concat();
@@ -262,17 +278,16 @@ fn read_below_questions(random: &mut Random) -> Vec<Question> {
         let bytes = any_string(random);
         asked.push((any_number(random), below(random, bytes.len() + 2), bytes));
     }
-    asked
-        .into_iter()
-        .map(|(bound, at, bytes)| Question::ReadBelow { bound, at, bytes })
-        .collect()
+    for (bound, at, bytes) in asked {
+        lend_bytes(script, &bytes);
+        script.ask(Instruction::ReadBelow(at as u64, bound));
+    }
 }
 
-pub fn questions() -> Vec<Question> {
+pub fn cases(script: &mut Script) {
     let mut random = Random(SEED);
-    let mut questions = width_questions(&mut random);
-    questions.extend(write_questions(&mut random));
-    questions.extend(read_questions(&mut random));
-    questions.extend(read_below_questions(&mut random));
-    questions
+    of_widths(script, &mut random);
+    of_writing(script, &mut random);
+    of_reading(script, &mut random);
+    of_reading_below(script, &mut random);
 }

@@ -1,9 +1,10 @@
 //! The record reader, from document 01 alone.
 
-use crate::coding::{read, read_below};
 use crate::field::P;
+use crate::numbers::{read, read_below};
 use crate::record::MOST_WIRES;
-use crate::steps::{refuse, Header, Lent, Refusal, EVAL_NODE, READ_NODE};
+use crate::refusal::{refuse, Refusal};
+use crate::steps::{Header, Lent, EVAL_NODE, READ_NODE};
 
 /// "ctx, clk, counts and declared wires must be below 2^32."
 const WORDS: u64 = 1 << 32;
@@ -14,32 +15,25 @@ struct Source<'a> {
     at: usize,
 }
 
-/// "15, 16, 17" return the "byte offset of the number".
 impl Source<'_> {
-    fn taken(&mut self, number: Result<(u64, usize), u32>) -> Result<u64, Refusal> {
-        match number {
-            Ok((value, next)) => {
-                self.at = next;
-                Ok(value)
-            }
-            Err(number) => refuse(number, self.at as u64),
-        }
+    fn below(&mut self, bound: u64) -> Result<u64, Refusal> {
+        let (value, next) = read_below(self.bytes, self.at, bound)?;
+        self.at = next;
+        Ok(value)
     }
 
     fn word(&mut self) -> Result<u32, Refusal> {
-        let number = read_below(self.bytes, self.at, WORDS);
-        self.taken(number).map(|word| word as u32)
+        self.below(WORDS).map(|word| word as u32)
     }
 
     fn element(&mut self) -> Result<u64, Refusal> {
-        let number = read_below(self.bytes, self.at, P);
-        self.taken(number)
+        self.below(P)
     }
 
     /// "24 at each list length that passes the room": so many cells a node, after those before it.
     fn length(&mut self, before: u128, each: u128, room: usize) -> Result<usize, Refusal> {
-        let number = read(self.bytes, self.at);
-        let length = self.taken(number)?;
+        let (length, next) = read(self.bytes, self.at)?;
+        self.at = next;
         if before + each * u128::from(length) > room as u128 {
             return refuse(24, 0);
         }

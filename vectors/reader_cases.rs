@@ -2,11 +2,12 @@
 
 use crate::coding::encode;
 use crate::field::P;
+use crate::record;
 use crate::record_form::{bytes_of, rising, Field, Form, Kind};
-use crate::record_script::{Script, ALL};
-use crate::{Question, BYTES};
+use crate::record_script::{Records, ALL, BYTES};
+use crate::script::Script;
 
-const MOST_WIRES: u64 = 1_073_741_823;
+const MOST_WIRES: u64 = record::MOST_WIRES as u64;
 
 /// Three wires, numbers of one byte, of two, and of ten.
 fn small() -> Form {
@@ -20,22 +21,22 @@ fn small() -> Form {
 const SHAPES: [[u64; 2]; 6] = [[0, 1], [0, 2], [1, 1], [1, 3], [2, 3], [3, 1]];
 
 /// Every prefix, and the whole with bytes after it.
-fn of_prefixes(script: &mut Script) {
+fn of_prefixes(records: &mut Records<'_>) {
     for [reads, evals] in SHAPES {
         let form = Form::right(reads, evals, rising());
         let bytes = form.bytes();
-        script.read(form.room(), &bytes);
+        records.read(form.room(), &bytes);
         for length in 0..bytes.len() {
-            script.push(Question::Read(ALL, length));
+            records.read_first(ALL, length);
         }
         for after in [vec![0], vec![1], vec![0x80], vec![0xff; 10], bytes.clone()] {
-            script.read(ALL, &[bytes.clone(), after].concat());
+            records.read(ALL, &[bytes.clone(), after].concat());
         }
     }
 }
 
 /// Each byte of a record as others.
-fn of_bytes(script: &mut Script) {
+fn of_bytes(records: &mut Records<'_>) {
     let form = small();
     let bytes = form.bytes();
     for (at, &byte) in bytes.iter().enumerate() {
@@ -43,7 +44,7 @@ fn of_bytes(script: &mut Script) {
         others.sort();
         others.dedup();
         for other in others.into_iter().filter(|&other| other != byte) {
-            script.read_with(form.room(), &bytes, at, other);
+            records.read_with(form.room(), &bytes, at, other);
         }
     }
 }
@@ -68,25 +69,25 @@ fn no_numbers(value: u64) -> Vec<Vec<u8>> {
 }
 
 /// Every refusal of a number, at each field of a record.
-fn of_fields(script: &mut Script) {
+fn of_fields(records: &mut Records<'_>) {
     let form = small();
     let fields = form.fields();
     for (i, &field) in fields.iter().enumerate() {
         let (before, after) = (bytes_of(&fields[..i]), bytes_of(&fields[i + 1..]));
         let numbers = values_near(field).into_iter().map(encode);
         for number in numbers.chain(no_numbers(field.value)) {
-            script.read(
+            records.read(
                 form.room(),
                 &[before.clone(), number, after.clone()].concat(),
             );
         }
         // Nine bytes of a number, and the end.
-        script.read(form.room(), &[before.clone(), vec![0x80; 9]].concat());
+        records.read(form.room(), &[before.clone(), vec![0x80; 9]].concat());
     }
 }
 
 /// Lengths that pass the room; of some the cells come to a small number modulo 2^64.
-fn of_long_lists(script: &mut Script) {
+fn of_long_lists(records: &mut Records<'_>) {
     let form = Form::right(2, 3, rising());
     let fields = form.fields();
     let lengths = fields.iter().enumerate();
@@ -103,36 +104,36 @@ fn of_long_lists(script: &mut Script) {
         for value in near.into_iter().chain(large).chain(wrapping) {
             let mut fields = fields.clone();
             fields[i].value = value;
-            script.read(ALL, &bytes_of(&fields));
-            script.read(form.room(), &bytes_of(&fields));
+            records.read(ALL, &bytes_of(&fields));
+            records.read(form.room(), &bytes_of(&fields));
         }
     }
 }
 
 /// Each buffer exact, one short, one more and empty: 24 at the list that passes it.
-fn of_rooms(script: &mut Script) {
+fn of_rooms(records: &mut Records<'_>) {
     for [reads, evals] in SHAPES {
         let form = Form::right(reads, evals, rising());
         let bytes = form.bytes();
-        script.read(form.room(), &bytes);
+        records.read(form.room(), &bytes);
         for buffer in 0..3 {
             let exact = form.room()[buffer];
             let before = (7 * reads as usize).saturating_sub(1);
             for length in [0, before, before + 1, exact - 1, exact, exact + 1] {
                 let mut lent = form.room();
                 lent[buffer] = length;
-                script.read(lent, &bytes);
+                records.read(lent, &bytes);
             }
         }
         // What comes before the length is refused before the room, what comes after it is not.
         for at in 0..bytes.len() {
-            script.push(Question::Read([0; 3], at));
+            records.read_first([0; 3], at);
         }
     }
 }
 
 /// Lists and declared counts that do not fit one another: 18 to 23.
-fn of_counts(script: &mut Script) {
+fn of_counts(records: &mut Records<'_>) {
     for wires in 0..4_u64 {
         let others = [
             0,
@@ -151,9 +152,9 @@ fn of_counts(script: &mut Script) {
             for reads in nodes.clone() {
                 for evals in nodes.clone() {
                     let form = Form::of([wires, declared, reads, evals], rising());
-                    script.read(ALL, &form.bytes());
+                    records.read(ALL, &form.bytes());
                     if is_right {
-                        script.read(form.room(), &[form.bytes(), vec![0x80]].concat());
+                        records.read(form.room(), &[form.bytes(), vec![0x80]].concat());
                     }
                 }
             }
@@ -162,28 +163,27 @@ fn of_counts(script: &mut Script) {
 }
 
 /// The writer's room: exact, one short, one more and none.
-fn of_written_room(script: &mut Script) {
+fn of_written_room(records: &mut Records<'_>) {
     for [reads, evals] in SHAPES {
         let form = Form::right(reads, evals, rising());
         let bytes = form.bytes();
-        script.through(&bytes, form.record());
+        records.through(&bytes, form.record());
         for room in [0, 1, bytes.len() - 1, bytes.len(), bytes.len() + 1] {
             for filling in [0xaa, 0xff] {
-                script.push(Question::Write(ALL, form.record(), filling, room));
+                records.write(ALL, form.record(), filling, room);
             }
         }
-        script.push(Question::Write(form.room(), form.record(), 0, BYTES));
+        records.write(form.room(), form.record(), 0, BYTES);
     }
 }
 
-pub fn questions() -> Vec<Question> {
-    let mut script = Script::new();
-    of_prefixes(&mut script);
-    of_bytes(&mut script);
-    of_fields(&mut script);
-    of_long_lists(&mut script);
-    of_rooms(&mut script);
-    of_counts(&mut script);
-    of_written_room(&mut script);
-    script.questions
+pub fn cases(script: &mut Script) {
+    let records = &mut Records(script);
+    of_prefixes(records);
+    of_bytes(records);
+    of_fields(records);
+    of_long_lists(records);
+    of_rooms(records);
+    of_counts(records);
+    of_written_room(records);
 }

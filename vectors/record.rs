@@ -1,11 +1,23 @@
 //! A record, and what row fill and the record writer refuse alike, from document 01 alone.
 
 use crate::field::P;
-use crate::steps::{check_room, needs, refuse, wires, Header, Lent, Refusal};
+use crate::refusal::{refuse, Refusal};
+use crate::steps::{check_room, needs, wires, Header, Lent, State};
 use crate::steps::{EVAL_NODE, READ_NODE};
 
 /// "19: over 1,073,741,823 wires."
 pub const MOST_WIRES: u128 = 1_073_741_823;
+
+/// "Given a step state, 13 and 11 come before these." "11: result asked before all steps are done."
+pub fn header_of_state(state: &State) -> Result<Header, Refusal> {
+    if !state.is_sound() {
+        return refuse(13, 0);
+    }
+    if state.lacks_reads() || state.lacks_evals() {
+        return refuse(11, 0);
+    }
+    Ok(state.header())
+}
 
 /// A header, and what it uses of the lent buffers.
 pub struct Record<'a> {

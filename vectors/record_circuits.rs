@@ -3,11 +3,11 @@
 use crate::circuits::{gate, listing, sixteen, Circuit, ADD, MUL, SUB};
 use crate::field::P;
 use crate::random::Random;
-use crate::record_script::{exact, finished, Script, ALL, FILLING};
+use crate::record_script::{finished, Of, Records, ALL, BYTES, FILLING, ROWS};
+use crate::script::{room, Script};
 use crate::steps::Lent;
 use crate::whole::{evaluate, Call};
 use crate::writer::write;
-use crate::{Of, Question, BYTES, ROWS};
 
 const SEED: u64 = 4;
 const CIRCUITS: usize = 30;
@@ -53,7 +53,7 @@ fn large_circuit(random: &mut Random, num_vars: u64, gates: u64) -> Circuit {
     Circuit { variables, gates }
 }
 
-fn ask(script: &mut Script, clk: u32, circuit: &Circuit) {
+fn ask(records: &mut Records<'_>, clk: u32, circuit: &Circuit) {
     let (num_vars, num_eval) = (circuit.variables.len() as u64, circuit.gates.len() as u64);
     let call = Call {
         ctx: clk % 3,
@@ -62,7 +62,7 @@ fn ask(script: &mut Script, clk: u32, circuit: &Circuit) {
         num_vars,
         num_eval,
     };
-    let [values, counts, nodes] = exact((num_vars / 2) as u32, num_eval as u32);
+    let [values, counts, nodes] = room((num_vars / 2) as u32, num_eval as u32);
     let lent = &mut Lent {
         values: &mut vec![0; values],
         counts: &mut vec![0; counts],
@@ -72,34 +72,28 @@ fn ask(script: &mut Script, clk: u32, circuit: &Circuit) {
     let header = header.unwrap_or_else(|refusal| panic!("refused {}", refusal.number));
     let mut out = vec![0; BYTES];
     let length = write(header, lent, &mut out).unwrap_or_else(|_| panic!("no room"));
-    script.through(&out[..length], Of::Record(header));
+    records.through(&out[..length], Of::Record(header));
     let opened = [header.ctx, header.clk, header.num_read, header.num_eval];
     let state = Of::State(finished(opened));
     if length < 1_000 {
-        script.push(Question::Fill(ALL, state, u64::from(clk % 4), ROWS));
-        script.push(Question::Write(
-            [values, counts, nodes],
-            state,
-            FILLING,
-            length,
-        ));
+        records.fill(ALL, state, u64::from(clk % 4), ROWS);
+        records.write([values, counts, nodes], state, FILLING, length);
     }
 }
 
-pub fn questions() -> Vec<Question> {
+pub fn cases(script: &mut Script) {
     let mut random = Random(SEED);
-    let mut script = Script::new();
-    ask(&mut script, 7, &listing());
-    ask(&mut script, 300, &sixteen());
+    let records = &mut Records(script);
+    ask(records, 7, &listing());
+    ask(records, 300, &sixteen());
     for clk in 0..CIRCUITS as u32 {
         let num_vars = 2 + 2 * (random.next() % 3);
         let gates = 4 + 4 * (random.next() % 2);
         let circuit = circuit(&mut random, num_vars, gates);
-        ask(&mut script, clk, &circuit);
+        ask(records, clk, &circuit);
     }
     for (clk, [num_vars, gates]) in (100_000..).zip(LARGE) {
         let circuit = large_circuit(&mut random, num_vars, gates);
-        ask(&mut script, clk, &circuit);
+        ask(records, clk, &circuit);
     }
-    script.questions
 }

@@ -1,9 +1,9 @@
 //! Records field by field, right or wrong, of which the reader's questions are made.
 
 use crate::coding::encode;
-use crate::record_script::exact;
+use crate::record_script::{record, Of};
+use crate::script::{room, Lengths};
 use crate::steps::{EVAL_NODE, READ_NODE};
-use crate::{Lengths, Of};
 
 #[derive(Clone, Copy, PartialEq)]
 pub enum Kind {
@@ -103,7 +103,7 @@ impl Form {
     /// The room that the lists need.
     pub fn room(&self) -> Lengths {
         let wires = self.wires.len();
-        let [_, _, nodes] = exact(self.reads.len() as u32, self.evals.len() as u32);
+        let [_, _, nodes] = room(self.reads.len() as u32, self.evals.len() as u32);
         [2 * wires, wires, nodes]
     }
 
@@ -112,7 +112,7 @@ impl Form {
         let counts = [self.reads.len() as u32, self.evals.len() as u32];
         let [num_read, num_eval] = counts;
         let opened = [self.ctx as u32, self.clk as u32, num_read, num_eval];
-        crate::record_script::record(opened, self.id_next)
+        record(opened, self.id_next)
     }
 }
 

@@ -1,7 +1,8 @@
 //! Row fill, from document 01 alone.
 
 use crate::record::Record;
-use crate::steps::{refuse, Header, Lent, Refusal};
+use crate::refusal::{refuse, Refusal};
+use crate::steps::{Header, Lent};
 
 /// "16 cells" a row.
 pub const WIDTH: usize = 16;

@@ -1,116 +1,183 @@
-//! What the cases by hand are made of.
+//! Cases as instructions, which are run on the machine as they are written down: one pass makes the
+//! questions and the answers.
 
-use crate::field::{ID_BITS, OPCODE_BITS, P};
-use crate::steps::{needs, State};
-use crate::{Question, COUNTS, NODES, VALUES};
-
-pub const ALL: [usize; 3] = [VALUES, COUNTS, NODES];
-
-/// ctx, clk, num_read and num_eval: ids 6 to 3 are read, ids 2 to 0 are gates.
-pub const SEVEN_WIRES: [u32; 4] = [5, 9, 2, 3];
+use crate::field::P;
+use crate::instruction::{Buffer, Instruction, SET_AT_ONCE, WRITTEN};
+use crate::judge::Judge;
+use crate::machine::Machine;
+use crate::steps::needs;
+use crate::told::{entry_numbers, state_numbers};
 
 pub const NEAR_P: [u64; 3] = [P - 1, P, u64::MAX];
-pub const NEAR_FULL: [u32; 3] = [u32::MAX - 2, u32::MAX - 1, u32::MAX];
 
-pub const GOOD_WORD: [u64; 4] = [11, 12, 13, 14];
+/// How many value cells, counts and node cells are lent.
+pub type Lengths = [usize; 3];
 
-/// READ and EVAL counts on both sides of each edge; of some a sum of 32 bits would wrap.
-pub const OPENINGS: [[u32; 2]; 27] = [
-    [0, 0],
-    [0, 1],
-    [1, 0],
-    [1, 1],
-    [1, 2],
-    [1, 3],
-    [1, 5],
-    [2, 1],
-    [2, 3],
-    [0, 32_768],
-    [0, 32_769],
-    [1, 32_766],
-    [1, 32_767],
-    [2, 32_764],
-    [3, 32_764],
-    [16_383, 2],
-    [16_383, 3],
-    [16_384, 0],
-    [16_384, 1],
-    [16_385, 0],
-    [1 << 31, 0],
-    [1 << 31, 1],
-    [(1 << 31) + 1, 4],
-    [1, u32::MAX - 1],
-    [0, u32::MAX],
-    [u32::MAX, 0],
-    [u32::MAX, u32::MAX],
-];
-
-pub fn word(opcode: u64, left: u64, right: u64) -> u64 {
-    (opcode << OPCODE_BITS) | (right << ID_BITS) | left
-}
-
-/// What the whole circuit needs.
-pub fn exact([_, _, num_read, num_eval]: [u32; 4]) -> [usize; 3] {
+/// What a circuit of these counts needs.
+pub fn room(num_read: u32, num_eval: u32) -> Lengths {
     needs(num_read, num_eval).map(|need| need as usize)
 }
 
-/// Of the wire with an id, among the seven.
-pub fn position(id: u64) -> usize {
-    6 - id as usize
+/// The same, of what it was opened with.
+pub fn room_of([_, _, num_read, num_eval]: [u32; 4]) -> Lengths {
+    room(num_read, num_eval)
 }
 
-pub struct Script(pub Vec<Question>);
+/// How many cells past those that are lent are looked at too.
+pub const PAST: u64 = 3;
+
+/// How a case looks at the buffers after its call.
+#[derive(Clone, Copy)]
+pub enum Said {
+    Cells,
+    Sums,
+}
+
+/// An instruction, and the numbers that it writes.
+pub struct Answered {
+    pub instruction: Instruction,
+    pub written: Vec<u64>,
+}
+
+pub struct Script {
+    pub machine: Machine,
+    pub answered: Vec<Answered>,
+    judge: Judge,
+}
 
 impl Script {
-    /// A call on canaries.
-    pub fn ask(&mut self, lent: [usize; 3], state: State, call: Question) {
-        self.ask_with(lent, state, &[], call);
-    }
-
-    /// A call on cells that are set before.
-    pub fn ask_with(&mut self, lent: [usize; 3], state: State, cells: &[Question], call: Question) {
-        self.0.extend([Question::Begin(lent), Question::Set(state)]);
-        self.0.extend(cells);
-        self.0.push(call);
-    }
-
-    pub fn eval_with(&mut self, state: State, cells: &[Question], word: u64) {
-        self.ask_with(ALL, state, cells, Question::Eval(20, word));
-    }
-
-    /// Every call, with the last wire zero: each passes where it is its turn.
-    pub fn calls(&mut self, lent: [usize; 3], state: State) {
-        for call in calls() {
-            self.ask_with(lent, state, &last_wire([0, 0]), call);
+    pub fn new() -> Script {
+        Script {
+            machine: Machine::new(),
+            answered: Vec::new(),
+            judge: Judge::default(),
         }
     }
-}
 
-pub fn calls() -> [Question; 3] {
-    [
-        Question::Read(20, GOOD_WORD),
-        Question::Eval(21, word(2, 6, 5)),
-        Question::Result,
-    ]
-}
+    /// Stops where the Rust disagrees.
+    fn run(&mut self, instruction: &Instruction) -> Vec<u64> {
+        let run = self.judge.run(&mut self.machine, instruction);
+        run.unwrap_or_else(|what| panic!("the Rust disagrees: {what}: {instruction:?}"))
+    }
 
-pub fn value(id: u64, [a, b]: [u64; 2]) -> [Question; 2] {
-    let first = 2 * position(id);
-    [Question::Value(first, a), Question::Value(first + 1, b)]
-}
+    pub fn report(&self) {
+        self.judge.report();
+    }
 
-pub fn count(id: u64, count: u32) -> Question {
-    Question::Count(position(id), count)
-}
+    pub fn ask(&mut self, instruction: Instruction) -> &[u64] {
+        let written = self.run(&instruction);
+        self.answered.push(Answered {
+            instruction,
+            written,
+        });
+        &self.answered[self.answered.len() - 1].written
+    }
 
-pub fn last_wire(pair: [u64; 2]) -> [Question; 2] {
-    value(0, pair)
-}
+    /// The numbers that a setting sets, as they are now.
+    fn now(&self, setting: &Instruction) -> Vec<u64> {
+        let Machine { state, list, .. } = &self.machine;
+        match *setting {
+            Instruction::Set(buffer, at, ref cells) => {
+                self.machine.cells(buffer).shown(at, cells.len() as u64)
+            }
+            Instruction::Rise {
+                buffer, at, cells, ..
+            } => self.machine.cells(buffer).shown(at, cells),
+            Instruction::Lend(buffer, _) => vec![self.machine.cells(buffer).lent_cells()],
+            Instruction::State(_) => state_numbers(state).to_vec(),
+            Instruction::Entry(at, _) => {
+                let entry = list.entries.get(at as usize);
+                entry.map_or(Vec::new(), |entry| entry_numbers(entry).to_vec())
+            }
+            Instruction::Length(_) => vec![list.len.into()],
+            _ => unreachable!("the others set nothing"),
+        }
+    }
 
-pub fn seven(reads: u32, evals: u32) -> State {
-    State::after(SEVEN_WIRES, reads, evals)
-}
+    /// A setting; it is not written down where all is so already.
+    pub fn set(&mut self, setting: Instruction) {
+        let before = self.now(&setting);
+        self.machine.run(&setting);
+        if self.now(&setting) != before {
+            self.answered.push(Answered {
+                instruction: setting,
+                written: Vec::new(),
+            });
+        }
+    }
 
-pub fn sound_states() -> [State; 6] {
-    [(0, 0), (1, 0), (2, 0), (2, 1), (2, 2), (2, 3)].map(|(reads, evals)| seven(reads, evals))
+    /// Of the cells, those from the first to the last that are others now.
+    pub fn set_cells(&mut self, buffer: Buffer, at: u64, cells: &[u64]) {
+        let now = self.machine.cells(buffer).shown(at, cells.len() as u64);
+        let is_other = |i: &usize| now.get(*i) != Some(&cells[*i]);
+        let Some(first) = (0..cells.len()).find(is_other) else {
+            return;
+        };
+        let last = (first..cells.len()).rfind(is_other).unwrap_or(first);
+        let places = (at + first as u64..).step_by(SET_AT_ONCE);
+        for (at, cells) in places.zip(cells[first..=last].chunks(SET_AT_ONCE)) {
+            self.set(Instruction::Set(buffer, at, cells.to_vec()));
+        }
+    }
+
+    pub fn fill(&mut self, buffer: Buffer, cells: u64, with: u64) {
+        self.set(Instruction::Rise {
+            buffer,
+            at: 0,
+            cells,
+            back: 0,
+            step: with,
+        });
+    }
+
+    /// Cells from the first on, every one so much more than the one before it.
+    pub fn rise(&mut self, buffer: Buffer, cells: u64, first: u64, step: u64) {
+        self.set(Instruction::Set(buffer, 0, vec![first]));
+        self.set(Instruction::Rise {
+            buffer,
+            at: 1,
+            cells: cells - 1,
+            back: 1,
+            step,
+        });
+    }
+
+    /// Cells that tell which they are. None is an element, and no count is so large by calls.
+    pub fn canaries(&mut self, buffer: Buffer, cells: u64) {
+        self.set(Instruction::Rise {
+            buffer,
+            at: 0,
+            cells,
+            back: 1,
+            step: match buffer {
+                Buffer::Counts => u32::MAX.into(),
+                _ => u64::MAX,
+            },
+        });
+    }
+
+    pub fn lend(&mut self, buffer: Buffer, cells: usize) {
+        self.set(Instruction::Lend(buffer, cells as u64));
+    }
+
+    pub fn lend_written(&mut self, lent: Lengths) {
+        for (buffer, cells) in WRITTEN.into_iter().zip(lent) {
+            self.lend(buffer, cells);
+        }
+    }
+
+    /// Every cell that is lent, and some past it.
+    pub fn look(&mut self, buffer: Buffer, said: Said) {
+        let cells = self.machine.cells(buffer).lent_cells() + PAST;
+        self.ask(match said {
+            Said::Cells => Instruction::Show(buffer, 0, cells),
+            Said::Sums => Instruction::Sum(buffer, 0, cells),
+        });
+    }
+
+    pub fn look_written(&mut self, said: Said) {
+        for buffer in WRITTEN {
+            self.look(buffer, said);
+        }
+    }
 }

@@ -3,9 +3,8 @@
 
 use crate::circuits::{gate, ADD};
 use crate::field::P;
-use crate::pattern::Pattern;
-use crate::whole_script::{exact, Script, LAST_ID};
-use crate::{Question, Said, Setting, MEMORY};
+use crate::script::Said;
+use crate::whole_script::{Setting, Wholes, LAST_ID};
 
 /// Gates are counted from 0. The name of each gives the refusal.
 #[derive(Clone, Copy)]
@@ -35,20 +34,20 @@ pub struct Placed {
 
 impl Placed {
     fn word(&mut self, k: u64) -> &mut u64 {
-        let call = self.setting.call;
-        &mut self.memory[(call.ptr + 2 * call.num_vars + k) as usize]
+        let Setting { ptr, num_vars, .. } = self.setting;
+        &mut self.memory[(ptr + 2 * num_vars + k) as usize]
     }
 
     /// The id of the wire that gate k makes.
     fn own_id(&self, k: u64) -> u64 {
-        self.setting.call.num_eval - 1 - k
+        self.setting.num_eval - 1 - k
     }
 
     /// Counts, pointer and lengths are changed after memory, whose places they tell.
     fn change_cells(&mut self, spoil: Spoil) {
-        let num_wires = self.setting.call.num_vars + self.setting.call.num_eval;
+        let num_wires = self.setting.num_vars + self.setting.num_eval;
         match spoil {
-            Spoil::Cell7(i) => self.memory[(self.setting.call.ptr + i) as usize] = P,
+            Spoil::Cell7(i) => self.memory[(self.setting.ptr + i) as usize] = P,
             Spoil::Opcode8(k) => *self.word(k) |= gate(3, 0, 0),
             Spoil::Left9(k) => {
                 let own = gate(0, self.own_id(k), 0);
@@ -59,7 +58,7 @@ impl Placed {
                 *self.word(k) = *self.word(k) & !gate(0, 0, LAST_ID) | own;
             }
             Spoil::Output12 => {
-                let last = self.setting.call.num_eval - 1;
+                let last = self.setting.num_eval - 1;
                 *self.word(last) = gate(ADD, num_wires - 1, num_wires - 1);
             }
             _ => {}
@@ -67,14 +66,14 @@ impl Placed {
     }
 
     fn change_setting(&mut self, spoil: Spoil) {
-        let Setting { lent, memory, call } = &mut self.setting;
+        let setting = &mut self.setting;
         match spoil {
-            Spoil::Wires1 => call.num_eval += 32_768,
-            Spoil::Vars2 => call.num_vars -= 1,
-            Spoil::Gates3 => call.num_eval -= 1,
-            Spoil::Pointer4 => call.ptr -= 2,
-            Spoil::Memory5(cells) => *memory -= cells,
-            Spoil::Lent6(i, cells) => lent[i] -= cells,
+            Spoil::Wires1 => setting.num_eval += 32_768,
+            Spoil::Vars2 => setting.num_vars -= 1,
+            Spoil::Gates3 => setting.num_eval -= 1,
+            Spoil::Pointer4 => setting.ptr -= 2,
+            Spoil::Memory5(cells) => setting.memory -= cells,
+            Spoil::Lent6(i, cells) => setting.lent[i] -= cells,
             _ => {}
         }
     }
@@ -89,17 +88,7 @@ impl Placed {
     }
 }
 
-impl Script {
-    pub fn place_pattern(&mut self, pattern: Pattern) -> Placed {
-        self.0.extend([Question::Begin, Question::Pattern(pattern)]);
-        let mut memory = vec![P; MEMORY];
-        pattern.fill(&mut memory);
-        Placed {
-            memory,
-            setting: exact(pattern.at, pattern.vars, pattern.gates),
-        }
-    }
-
+impl Wholes<'_> {
     /// Memory is as it was again after it.
     pub fn ask_spoilt(&mut self, said: Said, placed: &Placed, spoils: &[Spoil]) {
         let spoilt = placed.spoilt(spoils);

@@ -1,9 +1,9 @@
 //! Steps and results asked of states that no calls give, and of their neighbours that calls do give.
 
 use crate::field::P;
-use crate::script::{seven, sound_states, Script, ALL, OPENINGS};
+use crate::script::Script;
+use crate::step_script::{seven, sound_states, Steps, ALL, OPENINGS};
 use crate::steps::State;
-use crate::Question;
 
 /// A state with one number as another would have it.
 pub fn with_number(state: &State, which: usize, change: impl Fn(u64) -> u64) -> State {
@@ -21,22 +21,22 @@ pub fn with_number(state: &State, which: usize, change: impl Fn(u64) -> u64) -> 
     new
 }
 
-fn tampered(script: &mut Script) {
+fn tampered(steps: &mut Steps<'_>) {
     for state in sound_states() {
         for which in 0..7 {
-            script.calls(ALL, with_number(&state, which, |n| n.wrapping_add(1)));
-            script.calls(ALL, with_number(&state, which, |n| n.wrapping_sub(1)));
-            script.calls(ALL, with_number(&state, which, |_| 0));
-            script.calls(ALL, with_number(&state, which, |_| u64::MAX));
+            steps.calls(ALL, with_number(&state, which, |n| n.wrapping_add(1)));
+            steps.calls(ALL, with_number(&state, which, |n| n.wrapping_sub(1)));
+            steps.calls(ALL, with_number(&state, which, |_| 0));
+            steps.calls(ALL, with_number(&state, which, |_| u64::MAX));
         }
         for id_next in [P - 1, P, P - 2, 1 << 32] {
-            script.calls(ALL, with_number(&state, 6, |_| id_next));
+            steps.calls(ALL, with_number(&state, 6, |_| id_next));
         }
     }
 }
 
 /// Several numbers changed so that id_next is what they say, and counts that opening refuses.
-fn liars(script: &mut Script) {
+fn liars(steps: &mut Steps<'_>) {
     let by = |reads_done, evals_done, id_next| State {
         reads_done,
         evals_done,
@@ -55,18 +55,17 @@ fn liars(script: &mut Script) {
         by(u32::MAX, 3, P - 1),
     ];
     for state in states {
-        script.calls(ALL, state);
+        steps.calls(ALL, state);
     }
     for [num_read, num_eval] in OPENINGS {
         for (reads, evals) in [(0, 0), (num_read, 0), (num_read, num_eval)] {
-            script.calls(ALL, State::after([1, 2, num_read, num_eval], reads, evals));
+            steps.calls(ALL, State::after([1, 2, num_read, num_eval], reads, evals));
         }
     }
 }
 
-pub fn questions() -> Vec<Question> {
-    let mut script = Script(Vec::new());
-    tampered(&mut script);
-    liars(&mut script);
-    script.0
+pub fn cases(script: &mut Script) {
+    let steps = &mut Steps(script);
+    tampered(steps);
+    liars(steps);
 }

@@ -1,6 +1,8 @@
 //! Wires and steps, from document 01 alone: opening, READ step, EVAL step and result.
 
-use crate::field::{decode, sub, Op, P};
+use crate::field::{decode, sub, P};
+use crate::instruction::Arithmetic;
+use crate::refusal::{refuse, Refusal};
 
 /// "1 (2·num_read + num_eval over 32768)."
 const MOST_WIRES: u128 = 32_768;
@@ -40,17 +42,6 @@ pub struct Lent<'a> {
     pub nodes: &'a mut [u64],
 }
 
-/// "What isn't in 'also returns' is 0."
-#[derive(Clone, Copy, PartialEq)]
-pub struct Refusal {
-    pub number: u32,
-    pub place: u64,
-}
-
-pub fn refuse<T>(number: u32, place: u64) -> Result<T, Refusal> {
-    Err(Refusal { number, place })
-}
-
 /// "With num_wires = 2·num_read + num_eval": a READ step makes two wires, an EVAL step one.
 pub fn wires(reads: u32, evals: u32) -> u128 {
     2 * u128::from(reads) + u128::from(evals)
@@ -79,7 +70,7 @@ pub fn check_room(num_read: u32, num_eval: u32, lent: &Lent<'_>) -> Result<(), R
 }
 
 /// "Refuses 1 (2·num_read + num_eval over 32768), 2 (num_read zero), 3 (num_eval zero)."
-fn check_counts(num_read: u32, num_eval: u32) -> Result<(), Refusal> {
+pub fn check_counts(num_read: u32, num_eval: u32) -> Result<(), Refusal> {
     if wires(num_read, num_eval) > MOST_WIRES {
         return refuse(1, 0);
     }
@@ -94,7 +85,7 @@ fn check_counts(num_read: u32, num_eval: u32) -> Result<(), Refusal> {
 
 /// "7 (its own cells; a step returns the cell's number in what it was handed, from 0, the pointer
 /// being last)."
-fn check_elements(handed: &[u64]) -> Result<(), Refusal> {
+pub fn check_elements(handed: &[u64]) -> Result<(), Refusal> {
     match handed.iter().position(|&cell| cell >= P) {
         Some(place) => refuse(7, place as u64),
         None => Ok(()),
@@ -134,6 +125,16 @@ impl State {
 
     pub fn lacks_evals(&self) -> bool {
         self.evals_done < self.num_eval
+    }
+
+    pub fn header(&self) -> Header {
+        Header {
+            ctx: self.ctx,
+            clk: self.clk,
+            num_read: self.num_read,
+            num_eval: self.num_eval,
+            id_next: self.id_next,
+        }
     }
 
     pub fn num_wires(&self) -> usize {
@@ -188,11 +189,11 @@ impl Lent<'_> {
 }
 
 /// "0 Sub, 1 Mul, 2 Add", and "eval_op is p - 1 for Sub, 0 for Mul, 1 for Add".
-fn operation(opcode: u64) -> (Op, u64) {
+fn operation(opcode: u64) -> (Arithmetic, u64) {
     match opcode {
-        0 => (Op::Difference, P - 1),
-        1 => (Op::Product, 0),
-        _ => (Op::Sum, 1),
+        0 => (Arithmetic::Sub, P - 1),
+        1 => (Arithmetic::Mul, 0),
+        _ => (Arithmetic::Add, 1),
     }
 }
 
@@ -265,11 +266,5 @@ pub fn result(state: State, lent: &Lent<'_>) -> Result<Header, Refusal> {
     if lent.values[last..][..2] != [0, 0] {
         return refuse(12, 0);
     }
-    Ok(Header {
-        ctx: state.ctx,
-        clk: state.clk,
-        num_read: state.num_read,
-        num_eval: state.num_eval,
-        id_next: state.id_next,
-    })
+    Ok(state.header())
 }

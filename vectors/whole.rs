@@ -1,7 +1,8 @@
 //! Whole evaluation, from document 01 alone, over the steps.
 
 use crate::field::P;
-use crate::steps::{self, needs, Header, Lent, Refusal, State};
+use crate::refusal::Refusal;
+use crate::steps::{self, needs, Header, Lent, State};
 
 /// "1: num_vars + num_eval over 32768, as whole numbers."
 const MOST_WIRES: u128 = 32_768;

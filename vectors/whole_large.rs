@@ -1,9 +1,9 @@
 //! Circuits of the sizes that the Rust names, 6,044 and 13,912 wires, and of the largest, 32,768.
 
 use crate::pattern::Pattern;
+use crate::script::{Said, Script};
 use crate::spoil::Spoil;
-use crate::whole_script::Script;
-use crate::{Question, Said, LARGE};
+use crate::whole_script::{Wholes, LARGE};
 
 /// num_vars and num_eval.
 const SIZES: [[u64; 2]; 5] = [
@@ -14,10 +14,10 @@ const SIZES: [[u64; 2]; 5] = [
     [32_764, 4],
 ];
 
-const UNIFORM: u64 = 1 << 20;
+pub const UNIFORM: u64 = 1 << 20;
 
 /// Every refusal; 8, 9 and 10 at the first, a middle and the last gate.
-fn spoils(num_vars: u64, num_eval: u64) -> Vec<Spoil> {
+fn spoils([num_vars, num_eval]: [u64; 2]) -> Vec<Spoil> {
     let region = 2 * num_vars + num_eval;
     let mut spoils = vec![
         Spoil::Wires1,
@@ -39,39 +39,35 @@ fn spoils(num_vars: u64, num_eval: u64) -> Vec<Spoil> {
     spoils
 }
 
-pub fn questions() -> Vec<Question> {
-    let mut script = Script(Vec::new());
-    for [vars, gates] in SIZES {
-        let at = 8;
+pub fn pattern(at: u64, [vars, gates]: [u64; 2], window: u64) -> Pattern {
+    Pattern {
+        seed: vars + window,
+        at,
+        vars,
+        gates,
+        window,
+        period: 13,
+        others: 9,
+    }
+}
+
+pub fn cases(script: &mut Script) {
+    let wholes = &mut Wholes(script);
+    for size in SIZES {
         for window in [UNIFORM, 1, 3] {
-            let pattern = Pattern {
-                seed: vars + window,
-                at,
-                vars,
-                gates,
-                window,
-            };
-            let placed = script.place_pattern(pattern);
-            script.ask(Said::LargeSums, placed.setting);
+            let placed = wholes.place_pattern(pattern(8, size, window));
+            wholes.ask(Said::Sums, placed.setting);
             if window == UNIFORM {
-                script.ask(Said::LargeSums, placed.setting.with_lent(LARGE));
-                for spoil in spoils(vars, gates) {
-                    script.ask_spoilt(Said::LargeSums, &placed, &[spoil]);
+                wholes.ask(Said::Sums, placed.setting.with_lent(LARGE));
+                for spoil in spoils(size) {
+                    wholes.ask_spoilt(Said::Sums, &placed, &[spoil]);
                 }
             }
         }
     }
     // Past the limit, with room and memory enough: the counts are sound but for their sum.
-    for [vars, gates] in [[2, 32_768], [6, 32_764], [32_766, 4]] {
-        let pattern = Pattern {
-            seed: gates,
-            at: 0,
-            vars,
-            gates,
-            window: UNIFORM,
-        };
-        let placed = script.place_pattern(pattern);
-        script.ask(Said::LargeSums, placed.setting);
+    for size in [[2, 32_768], [6, 32_764], [32_766, 4]] {
+        let placed = wholes.place_pattern(pattern(0, size, UNIFORM));
+        wholes.ask(Said::Sums, placed.setting);
     }
-    script.0
 }

@@ -2,8 +2,8 @@
 
 use crate::circuits::{gate, Circuit, ADD, MUL, SUB};
 use crate::field::P;
-use crate::whole_script::Script;
-use crate::Question;
+use crate::script::Script;
+use crate::whole_script::Wholes;
 
 const CORNER_PAIRS: [[u64; 2]; 6] = [
     [0, 0],
@@ -16,10 +16,10 @@ const CORNER_PAIRS: [[u64; 2]; 6] = [
 
 /// "Errors a careful reader still makes", each with a circuit that it answers otherwise. Evenness before
 /// size and the record's limit are told by the counts of `whole_cases` and `whole_large`.
-fn of_careful_readers(script: &mut Script) {
+fn of_careful_readers(wholes: &mut Wholes<'_>) {
     // Taking the id for the position: wires lie at both, with other values. The one comes to zero by its
     // ids alone, the other by its positions alone.
-    script.evaluate(&Circuit {
+    wholes.evaluate(&Circuit {
         variables: [1, 2, 3, 4, 5, 6, 7, 8].map(|v| [v, 0]).to_vec(),
         gates: vec![
             gate(SUB, 7, 4),
@@ -28,7 +28,7 @@ fn of_careful_readers(script: &mut Script) {
             gate(SUB, 1, 7),
         ],
     });
-    script.evaluate(&Circuit {
+    wholes.evaluate(&Circuit {
         variables: [1, 2, 3, 4, 4, 6, 7, 8].map(|v| [v, 0]).to_vec(),
         gates: vec![
             gate(SUB, 7, 4),
@@ -38,7 +38,7 @@ fn of_careful_readers(script: &mut Script) {
         ],
     });
     // Counting a wire once when both operands name it.
-    script.evaluate(&Circuit {
+    wholes.evaluate(&Circuit {
         variables: vec![[2, 5], [7, 1]],
         gates: vec![
             gate(MUL, 5, 5),
@@ -48,7 +48,7 @@ fn of_careful_readers(script: &mut Script) {
         ],
     });
     // Reading the last READ wire as the output: it is zero and the output is not; the other way round.
-    script.evaluate(&Circuit {
+    wholes.evaluate(&Circuit {
         variables: vec![[2, 5], [0, 0]],
         gates: vec![
             gate(ADD, 5, 4),
@@ -57,7 +57,7 @@ fn of_careful_readers(script: &mut Script) {
             gate(ADD, 1, 4),
         ],
     });
-    script.evaluate(&Circuit {
+    wholes.evaluate(&Circuit {
         variables: vec![[0, 0], [2, 5]],
         gates: vec![
             gate(ADD, 5, 4),
@@ -67,7 +67,7 @@ fn of_careful_readers(script: &mut Script) {
         ],
     });
     // Checking the total of counts only: it is the same of both, and spread otherwise.
-    script.evaluate(&Circuit {
+    wholes.evaluate(&Circuit {
         variables: vec![[0, 0], [2, 5]],
         gates: vec![
             gate(MUL, 5, 5),
@@ -76,7 +76,7 @@ fn of_careful_readers(script: &mut Script) {
             gate(MUL, 4, 5),
         ],
     });
-    script.evaluate(&Circuit {
+    wholes.evaluate(&Circuit {
         variables: vec![[0, 0], [2, 5]],
         gates: vec![
             gate(MUL, 4, 4),
@@ -88,10 +88,10 @@ fn of_careful_readers(script: &mut Script) {
 }
 
 /// Every operation on values near the edges, and its result with itself.
-fn of_values(script: &mut Script) {
+fn of_values(wholes: &mut Wholes<'_>) {
     for left in CORNER_PAIRS {
         for right in CORNER_PAIRS {
-            script.evaluate(&Circuit {
+            wholes.evaluate(&Circuit {
                 variables: vec![left, right],
                 gates: vec![
                     gate(SUB, 5, 4),
@@ -106,7 +106,7 @@ fn of_values(script: &mut Script) {
     for opcode in [SUB, MUL, ADD] {
         for first in CORNER_PAIRS {
             let own = |k: u64| gate(opcode, 4 - k, 4 - k);
-            script.evaluate(&Circuit {
+            wholes.evaluate(&Circuit {
                 variables: vec![[5, 6], first],
                 gates: (0..4).map(own).collect(),
             });
@@ -115,7 +115,7 @@ fn of_values(script: &mut Script) {
 }
 
 /// "12: last wire is not (0, 0)": each part alone, and sums and products that come to zero.
-fn of_outputs(script: &mut Script) {
+fn of_outputs(wholes: &mut Wholes<'_>) {
     for [a, b] in [
         [0, 0],
         [0, 1],
@@ -124,7 +124,7 @@ fn of_outputs(script: &mut Script) {
         [P - 1, 0],
         [P - 1, P - 1],
     ] {
-        script.evaluate(&Circuit {
+        wholes.evaluate(&Circuit {
             variables: vec![[0, 0], [a, b]],
             gates: vec![
                 gate(MUL, 5, 4),
@@ -134,7 +134,7 @@ fn of_outputs(script: &mut Script) {
             ],
         });
         let zero = [P - a, P - b].map(|cell| cell % P);
-        script.evaluate(&Circuit {
+        wholes.evaluate(&Circuit {
             variables: vec![zero, [a, b]],
             gates: vec![
                 gate(MUL, 5, 4),
@@ -146,10 +146,9 @@ fn of_outputs(script: &mut Script) {
     }
 }
 
-pub fn questions() -> Vec<Question> {
-    let mut script = Script(Vec::new());
-    of_careful_readers(&mut script);
-    of_values(&mut script);
-    of_outputs(&mut script);
-    script.0
+pub fn cases(script: &mut Script) {
+    let wholes = &mut Wholes(script);
+    of_careful_readers(wholes);
+    of_values(wholes);
+    of_outputs(wholes);
 }

@@ -2,7 +2,8 @@
 
 use crate::coding::encode;
 use crate::record::Record;
-use crate::steps::{refuse, wires, Header, Lent, Refusal};
+use crate::refusal::{refuse, Refusal};
+use crate::steps::{wires, Header, Lent};
 
 /// "A record: ctx, clk, id_next; wire list length, each wire as two elements and its count; declared
 /// wires; READ list length and nodes; EVAL list length and nodes."

@@ -10,6 +10,7 @@ use borrow.Author.Tests.{eqb-true, le-leb}
 use Rattle.field.specs.Told.{accepted, refused}
 use Rattle.field.specs.Field.{p}
 use Rattle.field.specs.Pair.{Pair, pair}
+use Rattle.field.proofs.Tellings.{same-values}
 use Rattle.instruction.specs.Decode.{opcode}
 use Rattle.trace.specs.Counts.{mostWires, room}
 use Rattle.trace.specs.Outcome.{Lent}
@@ -18,7 +19,6 @@ use Rattle.trace.proofs.Choices.{both, passes}
 use Rattle.trace.proofs.Tests.{room-of, room-by-nodes}
 use Rattle.eval_circuit.specs.Circuit.{Circuit, word, value}
 use Rattle.eval_circuit.specs.Evaluated.{memoryCells, regionCells, circuitAt, circuitAnswer, evalAnswer}
-use Rattle.eval_circuit.proofs.Cases.{same-values}
 use Rattle.eval_circuit.proofs.Values.{Early}
 use Rattle.eval_circuit.proofs.Gates.{early-gate, gate-early, gates-pass, gates-accepted}
 use Rattle.eval_circuit.proofs.RegionTests.{region-of, region-pass}

@@ -27,6 +27,7 @@ use Rattle.trace.proofs.Choices.{both}
 use Rattle.trace.proofs.Stores.{same?, names-same, names-other, raised-at}
 use Rattle.trace.proofs.NextId.{next-lacking, next-later}
 use Rattle.trace.proofs.StepTests.{eval-cells, as-stored, stored-value}
+use Rattle.trace.proofs.Answers.{lent-equal}
 use Rattle.trace.proofs.Ways.{eval-undecoded, eval-operands, left-refused, right-refused, both-taken}
 use Rattle.eval_circuit.specs.Circuit.{Circuit, numWires, word, value, namedBy, gateAnswer}
 use Rattle.eval_circuit.specs.Evaluated.{idAt, valueCells, readCells, evalCells}
@@ -38,7 +39,7 @@ use Rattle.eval_circuit.proofs.Fills.{fills, each-fills, each-raised}
 use Rattle.eval_circuit.proofs.RegionCells.{region-at, region-length, region-word}
 use Rattle.eval_circuit.proofs.Values.{Early, value-gate, value-elements}
 use Rattle.eval_circuit.proofs.Gates.{leftMade, rightMade, made-early, gate-undecoded, gate-left, gate-right, gate-accepted}
-use Rattle.eval_circuit.proofs.Stages.{nodes-length, values-length, counts-length, lent-equal, after-sound, stage-counts, stage-fits}
+use Rattle.eval_circuit.proofs.Stages.{nodes-length, values-length, counts-length, after-sound, stage-counts, stage-fits}
 
 -- ---- how often a wire is named
 

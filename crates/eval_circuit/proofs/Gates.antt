@@ -10,12 +10,13 @@ use borrow.Author.Tests.{ltb-true, lt-ltb}
 use Rattle.field.specs.Told.{Told, accepted, refused}
 use Rattle.field.specs.Field.{p}
 use Rattle.field.proofs.Cases.{below?}
+use Rattle.field.proofs.Tellings.{clash, same-refusal}
 use Rattle.instruction.specs.Decode.{leftId, rightId, opcode}
 use Rattle.instruction.proofs.Laws.{not-element, not-instruction, instruction}
 use Rattle.trace.specs.Eval.{isMade}
 use Rattle.trace.proofs.Choices.{both, both-hold, passes}
 use Rattle.eval_circuit.specs.Circuit.{Circuit, numWires, word, gateAnswer, gatesAnswer}
-use Rattle.eval_circuit.proofs.Cases.{true-or-false, clash, same-refusal}
+use Rattle.eval_circuit.proofs.Cases.{true-or-false}
 use Rattle.eval_circuit.proofs.Values.{Early}
 
 -- whether the operands of gate k are made before it

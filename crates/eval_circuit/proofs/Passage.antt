@@ -11,12 +11,12 @@ use lib.ListN.{length}
 use Rattle.field.specs.Told.{Told, accepted, refused}
 use Rattle.field.specs.Field.{p, firstOver}
 use Rattle.field.proofs.Cases.{below?}
+use Rattle.field.proofs.Tellings.{same-refusal}
 use Rattle.trace.specs.Counts.{mostWires, room, withRoom}
 use Rattle.trace.specs.Outcome.{Lent}
 use Rattle.trace.specs.Output.{isZero}
 use Rattle.eval_circuit.specs.Circuit.{Circuit, word, value, gateAnswer, gatesAnswer}
 use Rattle.eval_circuit.specs.Evaluated.{memoryCells, regionCells, circuitAt, ofCells, ofRegion, evalAnswer}
-use Rattle.eval_circuit.proofs.Cases.{same-refusal}
 use Rattle.eval_circuit.proofs.Gates.{gate-over, gate-refused, gates-cases, gates-pass, gates-stop}
 use Rattle.eval_circuit.proofs.Accepted.{header}
 

@@ -4,11 +4,12 @@ use mathlib.Core.Path.{_≡_, refl}
 use mathlib.Core.Bool.{Bool, true, false, _||_}
 use mathlib.Core.List.{List}
 use mathlib.Core.Logic.{inl, inr}
-use Prim.Native.Nat.{ℕ, _+_, _-_, _%_, _≤_, _<_}
+use Prim.Native.Nat.{ℕ, _+_, _%_, _≤_, _<_}
 use native.Mathlib.Omega.{arith}
 use lib.Dec.{ltb, eqb}
 use borrow.Author.Tests.{lt-ltb, le-ltb, eq-eqb, ne-eqb, ltb-false, eqb-false}
 use Rattle.field.specs.Told.{Told, accepted, refused}
+use Rattle.field.proofs.Tellings.{true-not-false}
 use Rattle.trace.specs.Counts.{mostWires}
 use Rattle.trace.proofs.Choices.{either-holds, not-stopped}
 use Rattle.eval_circuit.specs.Evaluated.{regionCells, ofRegion}
@@ -18,7 +19,7 @@ neither true b e f = e
 neither false b e f = f
 
 neither-holds : (a b : Bool) → (a || b) ≡ false → (a ≡ false) × (b ≡ false)
-neither-holds true b e = (e, let z : _≡_ {A = ℕ} 0 1 = cc in absurd (omega arith))
+neither-holds true b e = (e, true-not-false e)
 neither-holds false b e = (refl, e)
 
 -- each refusal in its turn

@@ -11,6 +11,7 @@ use borrow.Author.Tests.{eq-eqb}
 use Rattle.field.specs.Told.{accepted, refused}
 use Rattle.field.specs.Field.{p}
 use Rattle.field.specs.Pair.{Pair, pair}
+use Rattle.field.proofs.Tellings.{clash}
 use Rattle.trace.specs.declared.CircuitEvaluation.{CircuitEvaluation}
 use Rattle.trace.specs.declared.StepAnswer.{StepAnswer}
 use Rattle.trace.specs.declared.StepAnswer.the-variants.{Done, Refused}
@@ -21,14 +22,14 @@ use Rattle.trace.specs.State.{wiresOf, madeOf, nextId}
 use Rattle.trace.specs.Outcome.{Lent, valueAt}
 use Rattle.trace.specs.Output.{headerNumbers, headerOf, isZero, outputTold, outputAnswer}
 use Rattle.trace.proofs.NextId.{next-none}
+use Rattle.trace.proofs.Answers.{lent-equal}
 use Rattle.eval_circuit.specs.Circuit.{Circuit, numWires, value, gatesAnswer}
 use Rattle.eval_circuit.specs.Evaluated.{circuitAnswer, idAt, valueCells, readCells, evalCells}
 use Rattle.field.specs.Lists.{each}
 use Rattle.eval_circuit.specs.Inside.{circuitOf, after, namedCell, stage, Past, Prepared, stepTold, Left, Ran}
-use Rattle.eval_circuit.proofs.Cases.{clash}
 use Rattle.field.proofs.Each.{each-then}
 use Rattle.eval_circuit.proofs.Gates.{Passed, First, gates-pass, gates-stop, gates-accepted, gates-refused}
-use Rattle.eval_circuit.proofs.Stages.{nodes-length, values-length, counts-length, lent-equal, after-sound, stage-values, stage-counts, stage-nodes, stage-fits}
+use Rattle.eval_circuit.proofs.Stages.{nodes-length, values-length, counts-length, after-sound, stage-values, stage-counts, stage-nodes, stage-fits}
 use Rattle.eval_circuit.proofs.GateSteps.{past-front}
 
 -- a stage on top of an earlier one

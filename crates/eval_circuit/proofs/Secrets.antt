@@ -9,6 +9,7 @@ use native.Mathlib.Omega.{arith}
 use lib.Dec.{leb}
 use lib.ListN.{length, getD, drop}
 use Rattle.field.specs.Told.{Told, accepted, refused}
+use Rattle.field.proofs.Tellings.{clash, same-refusal}
 use Rattle.instruction.specs.Decode.{leftId, rightId, opcode}
 use Rattle.trace.specs.Counts.{nodeCells, room, withRoom}
 use Rattle.trace.specs.Outcome.{Lent}
@@ -16,7 +17,7 @@ use Rattle.trace.specs.Eval.{evalOp}
 use Rattle.trace.specs.Output.{isZero}
 use Rattle.eval_circuit.specs.Circuit.{Circuit, value}
 use Rattle.eval_circuit.specs.Evaluated.{memoryCells, circuitAt, ofRegion, evalAnswer, idAt, countCell, cleared, evalBuffers}
-use Rattle.eval_circuit.proofs.Cases.{true-or-false, clash, same-refusal}
+use Rattle.eval_circuit.proofs.Cases.{true-or-false}
 use Rattle.field.proofs.Each.{each-equal}
 use Rattle.eval_circuit.proofs.Accepted.{header, accepted-header}
 use Rattle.eval_circuit.proofs.Wires.{accepted-filled, node-read, node-eval, kept-values, kept-nodes, length-values, length-nodes}

@@ -16,12 +16,13 @@ use Rattle.field.proofs.Over.{over-all, of-elements}
 use Rattle.trace.specs.declared.CircuitEvaluation.{CircuitEvaluation}
 use Rattle.trace.specs.Counts.{wires, nodeCells}
 use Rattle.trace.specs.State.{wiresOf, nextId, sound}
-use Rattle.trace.specs.Outcome.{Lent, lent, outcome, fits, valueAt}
+use Rattle.trace.specs.Outcome.{Lent, outcome, fits, valueAt}
 use Rattle.trace.specs.Read.{readNode, readHanded, readTests, readMade, readStep}
 use Rattle.trace.specs.Eval.{position}
 use Rattle.trace.proofs.Tests.{sound-is, room-by-nodes}
 use Rattle.trace.proofs.StepTests.{read-cells}
 use Rattle.trace.proofs.Ways.{read-accepted}
+use Rattle.trace.proofs.Answers.{lent-equal}
 use Rattle.trace.proofs.NextId.{next-lacking, next-later}
 use Rattle.eval_circuit.specs.Circuit.{Circuit, numWires, value, namedBy}
 use Rattle.eval_circuit.specs.Evaluated.{idAt, valueCells, readCells, evalCells}
@@ -46,9 +47,6 @@ counts-length c k n = let e = each-length (namedCell c k) 1 (λ j. refl) n in om
 
 one-less : (w k : ℕ) → w - 1 - k - 1 ≡ w - 1 - (k + 1)
 one-less w k = omega arith
-
-pub lent-equal : {vs us cs ds ns ms : List ℕ} → vs ≡ us → cs ≡ ds → ns ≡ ms → lent vs cs ns ≡ lent us ds ms
-lent-equal e f g = rw (e, f, g)
 
 module _ (s : CircuitEvaluation) (memory : List ℕ) (ptr : ℕ) (b : Lent) (ok : Prepared s memory ptr b) where
   abbrev c : Circuit

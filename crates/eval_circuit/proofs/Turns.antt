@@ -8,6 +8,7 @@ use native.Mathlib.Omega.{arith}
 use lib.ListN.{getD}
 use Rattle.field.specs.Told.{accepted, refused}
 use Rattle.field.proofs.Cases.{below?}
+use Rattle.field.proofs.Tellings.{clash}
 use Rattle.trace.specs.declared.CircuitEvaluation.{CircuitEvaluation}
 use Rattle.trace.specs.declared.StepAnswer.{StepAnswer}
 use Rattle.trace.specs.declared.StepAnswer.the-variants.{Done, Refused}
@@ -17,7 +18,6 @@ use Rattle.trace.specs.Read.{readStep}
 use Rattle.trace.specs.Eval.{evalStep}
 use Rattle.eval_circuit.specs.Circuit.{Circuit, word, gateAnswer, gatesAnswer}
 use Rattle.eval_circuit.specs.Inside.{circuitOf, wordAt, after, stage, Past, Prepared, stepTold, Left}
-use Rattle.eval_circuit.proofs.Cases.{clash}
 use Rattle.eval_circuit.proofs.RegionCells.{region-word}
 use Rattle.eval_circuit.proofs.Gates.{First, gate-early, gates-pass, gates-stop}
 use Rattle.eval_circuit.proofs.Stages.{read-next}

@@ -27,6 +27,16 @@ pub record Early (c : Circuit) (k : ℕ) : Type 0 where
 abbrev gateValue : Circuit → ℕ → (ℕ → Pair) → Pair
 gateValue c k v = combine (opcode (word c k)) (v (leftId (word c k))) (v (rightId (word c k)))
 
+-- of positions: a gate's number by its wire's; an operand's, made before its gate, below what the gate's wire is below, and below the last wire
+of-gate : (at vars n : ℕ) → vars ≤ at → at < vars + n → at - vars < n
+of-gate at vars n g h = omega arith
+
+nearer : (at q vars n most more : ℕ) → vars ≤ at → q < vars + (at - vars) → at < vars + n → at < suc most → at < suc more → (q < vars + n) × (q < most) × (q < more)
+nearer at q vars n most more g e h l m = (omega arith, omega arith, omega arith)
+
+before-last : (q vars gates k : ℕ) → k < gates → q < vars + k → (q < vars + gates - 1) × (q < vars + gates)
+before-last q vars gates k h e = (omega arith, omega arith)
+
 module _ (c : Circuit) where
   by-read : (most id : ℕ) → 0 < most → position (numWires c) id < c .vars → valueBy most c id ≡ valueAt (c .cells) (position (numWires c) id)
   unfolding valueBy
@@ -47,14 +57,17 @@ module _ (c : Circuit) where
   value-stable n early zero more id h l m = absurd (omega arith)
   value-stable n early (suc most) zero id h l m = absurd (omega arith)
   value-stable n early (suc most) (suc more) id h l m =
+      let at = position (numWires c) id in
       ⊎-elim
       (λ r. by-read (suc most) id (omega arith) r ∙ sym (by-read (suc more) id (omega arith) r))
       (λ g.
-      let e = early (gateOf c id) (omega arith) in
+      let e = early (gateOf c id) (of-gate at (c .vars) n g h) in
+      let left = nearer at _ (c .vars) n most more g (e .left-early) h l m in
+      let right = nearer at _ (c .vars) n most more g (e .right-early) h l m in
       by-gate most id g
       ∙ ap₂ (combine (opcode (word c (gateOf c id))))
-      (value-stable n early most more (leftId (word c (gateOf c id))) (omega arith) (omega arith) (omega arith))
-      (value-stable n early most more (rightId (word c (gateOf c id))) (omega arith) (omega arith) (omega arith))
+      (value-stable n early most more (leftId (word c (gateOf c id))) (left .0) (left .1) (left .2))
+      (value-stable n early most more (rightId (word c (gateOf c id))) (right .0) (right .1) (right .2))
       ∙ sym (by-gate more id g))
       (below? (position (numWires c) id) (c .vars))
 
@@ -62,16 +75,19 @@ module _ (c : Circuit) where
   pub value-gate : (k : ℕ) → k < c .gates → ((j : ℕ) → j ≤ k → Early c j)
       → value c (idAt c (c .vars + k)) ≡ combine (opcode (word c k)) (value c (leftId (word c k))) (value c (rightId (word c k)))
   value-gate k h early =
-      let e = early k (omega arith) in
       let before : ((j : ℕ) → j < k → Early c j) = λ j l. early j (omega arith) in
       let g : gateOf c (idAt c (c .vars + k)) ≡ k = omega arith in
       let one-more : numWires c ≡ suc (numWires c - 1) = omega arith in
+      let made : c .vars ≤ position (numWires c) (idAt c (c .vars + k)) = omega arith in
+      let e = early k (omega arith) in
+      let l = before-last _ (c .vars) (c .gates) k h (e .left-early) in
+      let r = before-last _ (c .vars) (c .gates) k h (e .right-early) in
       ap (λ (most : ℕ). valueBy most c (idAt c (c .vars + k))) one-more
-      ∙ by-gate (numWires c - 1) (idAt c (c .vars + k)) (omega arith)
+      ∙ by-gate (numWires c - 1) (idAt c (c .vars + k)) made
       ∙ ap (λ (i : ℕ). gateValue c i (valueBy (numWires c - 1) c)) g
       ∙ ap₂ (combine (opcode (word c k)))
-      (value-stable k before (numWires c - 1) (numWires c) (leftId (word c k)) (omega arith) (omega arith) (omega arith))
-      (value-stable k before (numWires c - 1) (numWires c) (rightId (word c k)) (omega arith) (omega arith) (omega arith))
+      (value-stable k before (numWires c - 1) (numWires c) (leftId (word c k)) (e .left-early) (l .0) (l .1))
+      (value-stable k before (numWires c - 1) (numWires c) (rightId (word c k)) (e .right-early) (r .0) (r .1))
 
 combine-elements : (op : ℕ) (l r : Pair) → Elements (combine op l r)
 combine-elements zero l r = sub-elements l r

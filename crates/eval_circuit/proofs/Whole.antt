@@ -12,6 +12,7 @@ use borrow.Author.Tests.{lt-ltb, le-leb, lt-leb}
 use Rattle.field.specs.Told.{Told, accepted, refused}
 use Rattle.field.specs.Field.{p, firstOver}
 use Rattle.field.proofs.Over.{over-below}
+use Rattle.field.proofs.Tellings.{clash, same-refusal}
 use Rattle.trace.specs.declared.CircuitEvaluation.{CircuitEvaluation}
 use Rattle.trace.specs.declared.OpenAnswer.the-variants as opening
 use Rattle.trace.specs.declared.RecordHeader.{RecordHeader}
@@ -24,16 +25,14 @@ use Rattle.trace.specs.Outcome.{Lent, lent}
 use Rattle.trace.specs.Open.{opened, numbersOf, openAnswer}
 use Rattle.trace.specs.Output.{isZero, outputTold}
 use Rattle.trace.proofs.Tests.{room-of, counts-pass}
-use Rattle.trace.proofs.Answers.{open-determined}
+use Rattle.trace.proofs.Answers.{open-determined, lent-equal}
 use Rattle.eval_circuit.specs.Circuit.{Circuit, numWires, value}
 use Rattle.eval_circuit.specs.Evaluated.{memoryCells, regionCells, circuitAt, ofCells, circuitAnswer, ofRegion, evalAnswer, valueCells, countCell, readCells, evalCells, filled, zeroed, cleared, buffersAfter, evalBuffers}
 use Rattle.field.specs.Lists.{each}
 use Rattle.eval_circuit.specs.Inside.{circuitOf, after, stage, Past, Prepared, Ran}
-use Rattle.eval_circuit.proofs.Cases.{clash, same-refusal}
 use Rattle.eval_circuit.proofs.Gates.{First, Passed, gate-refused, gates-refused}
 use Rattle.eval_circuit.proofs.RegionCells.{memory-most, region-length, region-at, cells-pass}
 use Rattle.eval_circuit.proofs.RegionTests.{Region, region-pass}
-use Rattle.eval_circuit.proofs.Stages.{lent-equal}
 
 -- a refusal from 1 to 5 does not ask what comes after
 five : (a b d f g : Bool) (u : Told) (vs : List ℕ) (n k : ℕ)
@@ -44,7 +43,7 @@ five false true d f g u vs n k e = (e, let q : n ≡ 2 = cc in omega arith)
 five false false true f g u vs n k e = (e, let q : n ≡ 3 = cc in omega arith)
 five false false false true g u vs n k e = (e, let q : n ≡ 4 = cc in omega arith)
 five false false false false true u vs n k e = (e, let q : n ≡ 5 = cc in omega arith)
-five false false false false false u vs n k e = let z : _≡_ {A = ℕ} 0 1 = cc in absurd (omega arith)
+five false false false false false u vs n k e = clash e
 
 region-stops : (ptr num-vars num-eval cells n k : ℕ) (u : Told) → refused n k ≡ ofRegion ptr num-vars num-eval cells (accepted []) → (refused n k ≡ ofRegion ptr num-vars num-eval cells u) × (n ≤ 7)
 unfolding ofRegion

@@ -13,6 +13,7 @@ use Rattle.field.specs.Field.{p, firstOver}
 use Rattle.field.specs.Answer.{ofElements}
 use Rattle.field.specs.Pair.{pair, Elements}
 use Rattle.field.proofs.Cases.{below?}
+use Rattle.field.proofs.Tellings.{clash}
 
 pub over-here : (x : ℕ) (xs : List ℕ) → p ≤ x → firstOver (x ∷ xs) ≡ 0
 unfolding firstOver
@@ -89,9 +90,6 @@ elements-of xs vs t e k h =
     (λ l. clash (refused-at xs t (firstOver xs) refl l ∙ e))
     (λ l. over-below xs k (omega arith))
     (below? (firstOver xs) (length xs))
-  where
-    clash : {n : ℕ} → refused 7 n ≡ accepted vs → getD xs k 0 < p
-    clash q = let z : _≡_ {A = ℕ} 0 1 = cc in absurd (omega arith)
 
 -- a look at cells, one after the other
 part-one : (xs : List ℕ) (at end : ℕ) → at < end → at < length xs → take (end - at) (drop at xs) ≡ getD xs at 0 ∷ take (end - (at + 1)) (drop (at + 1) xs)

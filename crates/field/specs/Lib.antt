@@ -1,4 +1,5 @@
 pub mod Told
+pub mod Codes
 pub mod Lists
 pub mod Field
 pub mod Pair

@@ -10,6 +10,7 @@ use Rattle.field.specs.Told.{accepted, refused}
 use Rattle.field.specs.Field.{p, firstOver}
 use Rattle.field.proofs.Over.{over-here, over-later, refused-at, of-elements}
 use Rattle.field.proofs.Cases.{below?}
+use Rattle.field.proofs.Tellings.{clash}
 use Rattle.instruction.specs.Decode.{leftId, rightId, opcode, decodeAnswer}
 
 -- the three cases
@@ -60,9 +61,6 @@ decodes-small v vs e =
     (λ m. clash (sym (not-element v m) ∙ e))
     (below? v p))
     (below? v (3 * 2 ^ 60))
-  where
-    clash : {n k : ℕ} → refused n k ≡ accepted vs → v < 3 * 2 ^ 60
-    clash q = let z : _≡_ {A = ℕ} 0 1 = cc in absurd (omega arith)
 
 -- what is answered of it are its parts
 pub decoded : (v left right op : ℕ) → decodeAnswer v ≡ accepted (left ∷ right ∷ op ∷ []) → Word v left right op

@@ -8,6 +8,7 @@ use native.Mathlib.Omega.{arith}
 use borrow.Author.Tests.{lt-ltb, le-ltb}
 use Rattle.field.specs.Told.{Told, accepted, refused}
 use Rattle.field.proofs.Cases.{below?}
+use Rattle.field.proofs.Tellings.{clash}
 use Rattle.numbers.specs.Answer.{within, readAnswer, readBelowAnswer}
 
 module _ (bound : ℕ) (s : List ℕ) (at : ℕ) where
@@ -32,9 +33,6 @@ pub below-is-read : (bound : ℕ) (s : List ℕ) (at v next : ℕ) → readBelow
 unfolding readBelowAnswer
 below-is-read bound s at v next e = go (readAnswer s at) refl e
   where
-    clash : {n k : ℕ} → refused n k ≡ accepted (v ∷ next ∷ []) → Below bound s at v next
-    clash q = let z : _≡_ {A = ℕ} 0 1 = cc in absurd (omega arith)
-
     go : (t : Told) → readAnswer s at ≡ t → within bound at t ≡ accepted (v ∷ next ∷ []) → Below bound s at v next
     go (accepted []) r q = let z : _≡_ {A = ℕ} 0 1 = cc in absurd (omega arith)
     go (accepted (w ∷ ws)) r q =

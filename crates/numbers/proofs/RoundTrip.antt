@@ -9,8 +9,9 @@ use native.Mathlib.Nat.{pow-suc}
 use native.Mathlib.Omega.{arith}
 use lib.ListN.{length, getD, take, drop, take-append-drop, length-drop}
 use lib.Seq.{sets, sets-eq, slice, drop-at, getD-drop, take-add, length-take-le}
-use Rattle.field.specs.Told.{accepted, refused}
+use Rattle.field.specs.Told.{accepted}
 use Rattle.field.proofs.Cases.{below?}
+use Rattle.field.proofs.Tellings.{clash}
 use Rattle.numbers.specs.Form.{bytesIn, bytesOf, groupsIn, widthOf, Found, found, cutOff, notShortest, under, illFormed, findFrom}
 use Rattle.numbers.specs.Answer.{foundAt, readAnswer, written}
 use Rattle.numbers.proofs.Groups.{bytes-last, bytes-more, groups-last, groups-more, width-counts, width-some, width-most}
@@ -155,9 +156,6 @@ pub read-is-written : (s : List ℕ) (at v next : ℕ) → Bytes s → readAnswe
 unfolding readAnswer widthOf bytesOf
 read-is-written s at v next hb e = go (findFrom 0 (drop at s)) (back 9 0 (drop at s) refl (λ i. rw getD-drop (hb (at + i)))) e
   where
-    clash : {n k : ℕ} → refused n k ≡ accepted (v ∷ next ∷ []) → Read s at v next
-    clash q = let z : _≡_ {A = ℕ} 0 1 = cc in absurd (omega arith)
-
     go : (g : Found) → Of (Back 9 (drop at s)) g → foundAt at g ≡ accepted (v ∷ next ∷ []) → Read s at v next
     go (found w m) r q =
         let x : w ≡ v = cc in

@@ -2,9 +2,10 @@
 // Each but the first gives 0 or a refusal's number. A refusal's place goes where the place after
 // the number goes otherwise.
 ghost use mathlib.Core.Path.{_≡_};
+ghost use Rattle.field.specs.Codes.{code, valueOr};
 ghost use Rattle.numbers.specs.Form.{widthOf};
 ghost use Rattle.numbers.specs.Answer.{writeAnswer, written, readTold, readAnswer, readBelowAnswer};
-ghost use Rattle.numbers_c.specs.Codes.{code, placeAfter, valueOr};
+ghost use Rattle.numbers_c.specs.Codes.{placeAfter};
 use numbers::ReadAnswer;
 use numbers::WriteAnswer;
 
@@ -36,7 +37,7 @@ pub extern "C" fn numbers_write(v: u64, out: &mut [u8], at: usize, place: &mut u
 #[no_mangle]
 pub extern "C" fn numbers_read(s: &[u8], at: usize, value: &mut u64, place: &mut u64) -> u32
     ensures { λ r. ⌜ r ≡ code (readAnswer (now (s .entry)) at) ⌝ }
-    ensures { λ r. ⌜ now (value .exit) ≡ valueOr (now (value .entry)) (readAnswer (now (s .entry)) at) ⌝ }
+    ensures { λ r. ⌜ now (value .exit) ≡ valueOr 0 (now (value .entry)) (readAnswer (now (s .entry)) at) ⌝ }
     ensures { λ r. ⌜ now (place .exit) ≡ placeAfter 1 (readAnswer (now (s .entry)) at) ⌝ }
 {
     tell(numbers::read(s, at), value, place)
@@ -51,7 +52,7 @@ pub extern "C" fn numbers_read_below(
     place: &mut u64,
 ) -> u32
     ensures { λ r. ⌜ r ≡ code (readBelowAnswer bound (now (s .entry)) at) ⌝ }
-    ensures { λ r. ⌜ now (value .exit) ≡ valueOr (now (value .entry)) (readBelowAnswer bound (now (s .entry)) at) ⌝ }
+    ensures { λ r. ⌜ now (value .exit) ≡ valueOr 0 (now (value .entry)) (readBelowAnswer bound (now (s .entry)) at) ⌝ }
     ensures { λ r. ⌜ now (place .exit) ≡ placeAfter 1 (readBelowAnswer bound (now (s .entry)) at) ⌝ }
 {
     tell(numbers::read_below(s, at, bound), value, place)
@@ -59,7 +60,7 @@ pub extern "C" fn numbers_read_below(
 
 fn tell(answer: ReadAnswer, value: &mut u64, place: &mut u64) -> u32
     ensures { λ r. ⌜ r ≡ code (readTold answer) ⌝ }
-    ensures { λ r. ⌜ now (value .exit) ≡ valueOr (now (value .entry)) (readTold answer) ⌝ }
+    ensures { λ r. ⌜ now (value .exit) ≡ valueOr 0 (now (value .entry)) (readTold answer) ⌝ }
     ensures { λ r. ⌜ now (place .exit) ≡ placeAfter 1 (readTold answer) ⌝ }
 {
     match answer {

@@ -1,22 +1,18 @@
--- Cells that are stored from the first on, and what is claimed of them only where nothing is refused.
+-- Cells of which all are stored, and what is claimed of them only where nothing is refused.
 -- Assumes nothing.
-use Prim.Native.Nat.{ℕ, _≤_}
-use mathlib.Core.Path.{_≡_, refl, ap, _∙_}
+use Prim.Native.Nat.{ℕ}
+use mathlib.Core.Path.{_≡_, ap, _∙_}
 use mathlib.Core.List.{List, _++_, append-nil}
 use native.Mathlib.Omega.{arith}
-use lib.ListN.{length, take, drop, drop-of-length-le}
-use lib.Seq.{sets, take-at}
+use lib.ListN.{length, drop-of-length-le}
+use lib.Seq.{sets}
 use Rattle.field.specs.Told.{Told, refused}
-use Rattle.record.proofs.Ways.{clash}
+use Rattle.field.proofs.Tellings.{clash}
 use Rattle.record.proofs.Used.{front-set}
 use Rattle.program.specs.Inside.{WhereAccepted}
 
 pub where-refused : {A : Type 0} (number place : ℕ) (t : Told) → refused number place ≡ t → WhereAccepted t A
 where-refused number place t e vs q = clash (e ∙ q)
-
--- the first of them, and all of them
-pub front-taken : (n : ℕ) (xs old : List ℕ) → length xs ≡ n → n ≤ length old → take n (sets old 0 xs) ≡ xs
-front-taken n xs old e h = ap (take n) (front-set n xs old e h) ∙ take-at xs (drop n old) n e
 
 pub all-stored : (xs old : List ℕ) → length xs ≡ length old → sets old 0 xs ≡ xs
 all-stored xs old e =

@@ -17,10 +17,10 @@ use Rattle.eval_circuit.proofs.Accepted.{Valid, accepted-valid}
 use Rattle.rows.specs.ByWire.{circuitRows}
 use Rattle.rows.proofs.WireRows.{circuit-rows-length}
 use Rattle.record.proofs.Ways.{passed}
+use Rattle.record.proofs.Used.{front-taken}
 use Rattle.program.specs.Input.{ctxIn, clkIn, ptrIn, varsIn, evalsIn, memoryIn, inputAnswer}
 use Rattle.program.specs.Text.{decimal, part, lines}
 use Rattle.program.specs.Answer.{here, refuse, accept, refuseText, circuitText, textOf, programAnswer, programText, mostText, textLength, textAfter}
-use Rattle.program.proofs.Cells.{front-taken}
 use Rattle.program.proofs.Texts.{parts-length, behind-last}
 use Rattle.program.proofs.Inputs.{input-good, room-enough}
 

@@ -11,6 +11,7 @@ use borrow.Author.Tests.{ltb-false, eqb-false, le-leb}
 use Rattle.field.specs.Told.{Told, accepted, refused, orElse}
 use Rattle.field.specs.Field.{p, firstOver}
 use Rattle.field.specs.Answer.{ofElements}
+use Rattle.field.proofs.Tellings.{true-not-false}
 use Rattle.instruction.specs.Decode.{leftId, rightId, opcode, decodeAnswer}
 use Rattle.numbers.specs.Form.{Found, found, cutOff, notShortest, findFrom}
 use Rattle.numbers.specs.Answer.{foundAt, within, readAnswer, readBelowAnswer}
@@ -108,7 +109,7 @@ circuit-other ctx clk c =
 
 -- an evaluation of at most 128 wires has room here
 either-false : (a b : Bool) → (a || b) ≡ false → b ≡ false
-either-false true b e = let z : _≡_ {A = ℕ} 0 1 = cc in absurd (omega arith)
+either-false true b e = true-not-false e
 either-false false b e = e
 
 region-other : (ptr num-vars num-eval cells : ℕ) (t : Told) → (num-vars + num-eval ≤ mostWires → num-vars % 2 ≡ 0 → Other t) → Other (ofRegion ptr num-vars num-eval cells t)

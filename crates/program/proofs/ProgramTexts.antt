@@ -11,10 +11,10 @@ use borrow.Author.Tests.{le-leb, lt-leb}
 use Rattle.field.specs.Told.{Told, accepted, refused, orElse}
 use Rattle.eval_circuit.specs.Evaluated.{circuitAt, evalAnswer}
 use Rattle.record.proofs.Places.{length-from}
+use Rattle.record.proofs.Used.{front-taken}
 use Rattle.program.specs.Input.{ctxIn, clkIn, ptrIn, varsIn, evalsIn, cellsIn, cellsAt, memoryIn, mostCells, overRoom, inputAnswer}
 use Rattle.program.specs.Answer.{here, refuseText, circuitText, textOf, programAnswer, programText, mostText, textLength, textAfter}
 use Rattle.program.specs.Inside.{WhereAccepted, Loaded, evalText}
-use Rattle.program.proofs.Cells.{front-taken}
 use Rattle.program.proofs.Heads.{ctx-is, clk-is, ptr-is, vars-are, evals-are, cells-are}
 use Rattle.program.proofs.Inputs.{input-good}
 

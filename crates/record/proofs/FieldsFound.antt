@@ -9,6 +9,7 @@ use lib.Seq.{sets}
 use Rattle.field.specs.Told.{accepted}
 use Rattle.field.specs.Field.{p}
 use Rattle.field.specs.Lists.{each}
+use Rattle.field.proofs.Tellings.{same-values}
 use Rattle.trace.specs.Counts.{wires, nodeCells}
 use Rattle.trace.specs.Outcome.{Lent, lent}
 use Rattle.trace.specs.Record.{mostRecordWires}
@@ -37,7 +38,7 @@ use Rattle.record.specs.Reading.{
   countsFrom,
   recordIn,
 }
-use Rattle.record.proofs.Ways.{told, passed}
+use Rattle.record.proofs.Ways.{passed}
 use Rattle.record.proofs.Bounds.{AllBelow}
 use Rattle.record.proofs.Sequence.{Stand, stand-join}
 use Rattle.record.proofs.WireList.{WiresFound, wires-of}
@@ -129,7 +130,7 @@ pub accepted-of : (s : List ℕ) (b : Lent) (vs : List ℕ) → readFromAnswer s
 unfolding readFromAnswer
 accepted-of s b vs e =
     let a = passed _ _ vs e in
-    (fields-of s (length (b .values)) (length (b .counts)) (length (b .nodes)) (a .values) (a .first), told (a .then))
+    (fields-of s (length (b .values)) (length (b .counts)) (length (b .nodes)) (a .values) (a .first), same-values (a .then))
 
 -- the buffers after reading
 pub record-in : (s : List ℕ) (b : Lent)

@@ -12,9 +12,7 @@ use Rattle.record.specs.Reading.{ctxIn, clkIn, idNextIn, wiresIn, wiresA
 use Rattle.record.specs.Inside.{evalListFrom, nodeCellsFrom, nodesFrom}
 use Rattle.record.proofs.Places.{length-from}
 use Rattle.trace.proofs.Stores.{sets-append}
-
-pub lent-equal : {vs vs′ cs cs′ ns ns′ : List ℕ} → vs ≡ vs′ → cs ≡ cs′ → ns ≡ ns′ → lent vs cs ns ≡ lent vs′ cs′ ns′
-lent-equal p q r = cc
+use Rattle.trace.proofs.Answers.{lent-equal}
 
 -- both lists of nodes
 module _ (s : List ℕ) (at : ℕ) where

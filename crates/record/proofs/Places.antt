@@ -8,11 +8,11 @@ use lib.Dec.{ltb}
 use lib.ListN.{length, drop}
 use borrow.Author.Tests.{ltb-true}
 use Rattle.field.specs.Told.{accepted, refused}
+use Rattle.field.proofs.Tellings.{clash}
 use Rattle.numbers.specs.Form.{Found, found, cutOff, notShortest, findFrom}
 use Rattle.numbers.specs.Answer.{foundAt, within, readAnswer, readBelowAnswer}
 use Rattle.trace.proofs.Choices.{passes}
 use Rattle.record.specs.Numbers.{numberTold, nextTold, numberAt, nextAt, after, numbersFrom}
-use Rattle.record.proofs.Ways.{clash}
 
 module _ (s : List ℕ) (at : ℕ) where
   -- what an answer tells of a place

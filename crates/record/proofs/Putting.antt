@@ -9,13 +9,13 @@ use lib.Seq.{sets, length-sets}
 use Rattle.field.specs.Lists.{each}
 use Rattle.field.specs.Told.{accepted, refused}
 use Rattle.field.proofs.Each.{each-none}
+use Rattle.field.proofs.Tellings.{clash}
 use Rattle.trace.proofs.Stores.{sets-append}
 use Rattle.numbers.specs.Form.{bytesOf, widthOf}
 use Rattle.numbers.specs.Answer.{writeAnswer}
 use Rattle.numbers.proofs.Writing.{room-answer}
 use Rattle.record.specs.Bytes.{bytesOfAll, wireNumbers}
 use Rattle.record.specs.Numbers.{numberTold}
-use Rattle.record.proofs.Ways.{clash}
 use Rattle.record.proofs.Widths.{taken, taken-none, taken-more, taken-append, bytes-none, bytes-one, bytes-append, cells-next, cells-taken, cells-within, wires-next, wires-within}
 
 -- `put` where there is room

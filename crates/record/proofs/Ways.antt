@@ -3,21 +3,14 @@
 use Prim.Native.Nat.{ℕ}
 use mathlib.Core.Path.{_≡_, refl, sym, ap, _∙_}
 use mathlib.Core.List.{List, [], _∷_}
-use native.Mathlib.Omega.{arith}
 use Rattle.field.specs.Told.{Told, accepted, refused, orElse}
+use Rattle.field.proofs.Tellings.{clash}
 use Rattle.numbers.specs.Answer.{readTold}
 use Rattle.numbers.specs.declared.ReadAnswer.{ReadAnswer}
 
 -- an answer that a call promised, and that turned out to be x
 pub heard : {r x : ReadAnswer} {t : Told} → readTold r ≡ t → r ≡ x → t ≡ readTold x
 heard e f = sym e ∙ ap readTold f
-
--- what it tells, and that a refusal is no acceptance
-pub told : {vs ws : List ℕ} → accepted vs ≡ accepted ws → vs ≡ ws
-told e = cc
-
-pub clash : {A : Type 0} {number place : ℕ} {vs : List ℕ} → refused number place ≡ accepted vs → A
-clash e = let z : _≡_ {A = ℕ} 0 1 = cc in absurd (omega arith)
 
 pub values-are : (v next w place : ℕ) → accepted (v ∷ next ∷ []) ≡ accepted (w ∷ place ∷ []) → (w ≡ v) × (place ≡ next)
 values-are v next w place e = (cc, cc)

@@ -12,6 +12,7 @@ use borrow.Author.Tests.{leb-true, lt-ltb, le-leb}
 use Rattle.field.specs.Told.{accepted}
 use Rattle.field.specs.Field.{p, firstOver}
 use Rattle.field.proofs.Over.{over-all}
+use Rattle.field.proofs.Tellings.{same-values}
 use Rattle.trace.specs.declared.RecordHeader.{RecordHeader}
 use Rattle.trace.specs.Outcome.{Lent}
 use Rattle.trace.specs.Record.{recordWires, recordCells, elements, inField}
@@ -19,7 +20,6 @@ use Rattle.trace.proofs.Choices.{both-hold, passes}
 use Rattle.trace.proofs.Reached.{room-is}
 use Rattle.trace.proofs.Records.{Recorded, record-of, in-order}
 use Rattle.record.specs.Bytes.{recordBytes, ofBytes, writeIntoAnswer, writtenInto}
-use Rattle.record.proofs.Ways.{told}
 use Rattle.record.proofs.RecordWriting.{write-left, write-goes}
 use Rattle.record.proofs.Used.{front-set}
 
@@ -59,7 +59,7 @@ written-of h b out vs e =
     let l = leb-true _ _ (q .0) in
     record {
       recorded = r .0;
-      answer = sym (told (q .1));
+      answer = sym (same-values (q .1));
       inside = l;
       bytes = sym (write-left h b out (accepted vs) (sym e)) ∙ front-set (length (recordBytes h b)) (recordBytes h b) out refl l;
     }

@@ -15,6 +15,7 @@ use Rattle.trace.specs.Outcome.{Lent, lent}
 use Rattle.trace.specs.Output.{headerNumbers}
 use Rattle.trace.specs.Record.{recordWires, recordCells}
 use Rattle.trace.proofs.Records.{Recorded}
+use Rattle.trace.proofs.Answers.{lent-equal}
 use Rattle.record.specs.Bytes.{wireNumbers, bytesOfAll, recordNumbers, recordBytes, writeIntoAnswer, writtenInto}
 use Rattle.record.specs.Numbers.{numbersFrom}
 use Rattle.record.specs.Reading.{ctxIn, clkIn, idNextIn, wiresIn, wiresAt, readsIn, readsAt, evalsIn, evalsAt, endAt, headerIn, readFromAnswer, recordIn, readBuffers}
@@ -24,7 +25,6 @@ use Rattle.record.proofs.Sequence.{stand-from, stand-written}
 use Rattle.record.proofs.WireList.{values-length, counts-length}
 use Rattle.record.proofs.FieldsFound.{valuesIn, countsIn, readCellsIn, evalCellsIn, numbersIn, Accepted, accepted-of, record-in}
 use Rattle.record.proofs.Standing.{leaves}
-use Rattle.record.proofs.Loads.{lent-equal}
 use Rattle.record.proofs.Used.{used, laid-equal, held-numbers, front-taken}
 use Rattle.record.proofs.Writer.{writer-accepts, written-of}
 

@@ -11,6 +11,7 @@ use Rattle.field.specs.Told.{Told, accepted, refused, changed}
 use Rattle.field.specs.Pair.{Pair}
 use Rattle.field.proofs.Cases.{below?}
 use Rattle.field.proofs.Each.{each-equal}
+use Rattle.field.proofs.Tellings.{clash}
 use Rattle.trace.specs.declared.RecordHeader.{RecordHeader}
 use Rattle.trace.specs.Outcome.{Lent}
 use Rattle.trace.specs.Read.{readNode}
@@ -19,7 +20,6 @@ use Rattle.trace.specs.Output.{headerNumbers}
 use Rattle.trace.proofs.Stores.{sets-below, sets-above, sets-in}
 use Rattle.eval_circuit.specs.Circuit.{Circuit, multiplicity}
 use Rattle.eval_circuit.specs.Evaluated.{circuitAt, evalAnswer, idAt, evalBuffers}
-use Rattle.eval_circuit.proofs.Cases.{clash}
 use Rattle.eval_circuit.proofs.Accepted.{Valid, accepted-valid}
 use Rattle.eval_circuit.proofs.Wires.{wire-count, node-read, node-eval}
 use Rattle.rows.specs.Rows.{readRow, evalRow, readRowAt, evalRowAt, recordReadRow, recordEvalRow, recordRows}

@@ -11,6 +11,7 @@ use lib.ListN.{length, getD, List·getD-eq-default}
 use borrow.Author.Tests.{le-leb}
 use Rattle.field.specs.Pair.{Pair}
 use Rattle.field.proofs.Cases.{below?}
+use Rattle.field.proofs.Tellings.{true-not-false}
 use Rattle.rows.specs.Rows.{row}
 use Rattle.rows.specs.ByWire.{isWireValue}
 
@@ -46,7 +47,7 @@ module _ (hides : ℕ → Bool) (x y : ℕ) (xs ys : List ℕ) where
   unshown e s = record { cell = at }
     where
       at : (j : ℕ) → hides j ≡ false → getD (x ∷ xs) j 0 ≡ getD (y ∷ ys) j 0
-      at zero h = let z : true ≡ false = sym e ∙ h in let n : _≡_ {A = ℕ} 0 1 = cc in absurd (omega arith)
+      at zero h = true-not-false (sym e ∙ h)
       at (suc j) h = s .cell j h
 
 pub same-all : (hides : ℕ → Bool) (xs : List ℕ) → SameBut hides xs xs

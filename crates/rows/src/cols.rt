@@ -92,21 +92,24 @@ impl AceCols {
         requires { ⌜ at + 16 ≤ length (now rows) ⌝ }
         ensures { λ _. ⌜ now (rows .exit) ≡ sets (now (rows .entry)) at (colCells self) ⌝ }
     {
-        rows[at] = self.s_start;
-        rows[at + 1] = self.s_block;
-        rows[at + 2] = self.ctx;
-        rows[at + 3] = self.ptr;
-        rows[at + 4] = self.clk;
-        rows[at + 5] = self.eval_op;
-        rows[at + 6] = self.id_0;
-        rows[at + 7] = self.v_0[0];
-        rows[at + 8] = self.v_0[1];
-        rows[at + 9] = self.id_1;
-        rows[at + 10] = self.v_1[0];
-        rows[at + 11] = self.v_1[1];
-        rows[at + 12] = self.four[0];
-        rows[at + 13] = self.four[1];
-        rows[at + 14] = self.four[2];
-        rows[at + 15] = self.four[3];
+        let cells = [
+            self.s_start,
+            self.s_block,
+            self.ctx,
+            self.ptr,
+            self.clk,
+            self.eval_op,
+            self.id_0,
+            self.v_0[0],
+            self.v_0[1],
+            self.id_1,
+            self.v_1[0],
+            self.v_1[1],
+            self.four[0],
+            self.four[1],
+            self.four[2],
+            self.four[3],
+        ];
+        buffer::put(&cells, rows, at);
     }
 }

@@ -12,6 +12,7 @@ use Rattle.field.specs.Told.{Told, accepted, refused}
 use Rattle.field.specs.Field.{p}
 use Rattle.field.specs.Answer.{pairOf}
 use Rattle.field.proofs.Over.{elements-of}
+use Rattle.field.proofs.Tellings.{clash}
 use Rattle.instruction.specs.Decode.{leftId, rightId, opcode, decodeAnswer}
 use Rattle.instruction.proofs.Laws.{decodes-small}
 use Rattle.trace.specs.declared.CircuitEvaluation.{CircuitEvaluation}
@@ -29,9 +30,6 @@ use Rattle.trace.proofs.Tests.{Sound, Fits, told-accepted, read-turn-of
 told? : (t : Told) → ((vs : List ℕ) × (t ≡ accepted vs)) ⊎ ((number : ℕ) × (place : ℕ) × (t ≡ refused number place))
 told? (accepted vs) = inl (vs, refl)
 told? (refused n k) = inr (n, k, refl)
-
-not-both : (t : Told) (vs : List ℕ) (number place : ℕ) → t ≡ accepted vs → t ≡ refused number place → ⊥
-not-both t vs n k e f = let z : _≡_ {A = ℕ} 0 1 = cc in absurd (omega arith)
 
 at-gate : (gate : ℕ) (t : Told) → ((vs : List ℕ) × (atGate gate t ≡ accepted vs) × (t ≡ accepted vs)) ⊎ ((number : ℕ) × (atGate gate t ≡ refused number gate) × (isAccepted t ≡ false))
 at-gate gate (accepted vs) = inl (vs, refl, refl)
@@ -94,13 +92,13 @@ pub read-accepted : (s : CircuitEvaluation) (ptr : ℕ) (w : List (List ℕ)) (b
 read-accepted s ptr w b vs e =
     ⊎-elim
     (λ (a : ReadAccepted s ptr w b). a)
-    (λ (r : ReadRefused s ptr w b). absurd (not-both _ _ _ _ e (tells (r .leaves))))
+    (λ (r : ReadRefused s ptr w b). clash (sym (tells (r .leaves)) ∙ e))
     (read-cases s ptr w b)
 
 pub read-refused : (s : CircuitEvaluation) (ptr : ℕ) (w : List (List ℕ)) (b : Lent) (n k : ℕ) → readStep s ptr w b .told ≡ refused n k → readStep s ptr w b ≡ outcome (refused n k) s b
 read-refused s ptr w b n k e =
     ⊎-elim
-    (λ (a : ReadAccepted s ptr w b). absurd (not-both _ _ _ _ (tells (a .leaves)) e))
+    (λ (a : ReadAccepted s ptr w b). clash (sym e ∙ tells (a .leaves)))
     (λ (r : ReadRefused s ptr w b). r .leaves ∙ ap (λ (t : Told). outcome t s b) (sym (tells (r .leaves)) ∙ e))
     (read-cases s ptr w b)
 
@@ -254,13 +252,13 @@ module _ (s : CircuitEvaluation) (ptr word : ℕ) (b : Lent) where
   eval-accepted vs e =
       ⊎-elim
       (λ (a : EvalAccepted s ptr word b). a)
-      (λ (r : EvalRefused s ptr word b). absurd (not-both _ _ _ _ e (tells (r .leaves))))
+      (λ (r : EvalRefused s ptr word b). clash (sym (tells (r .leaves)) ∙ e))
       eval-cases
 
   pub eval-refused : (n k : ℕ) → evalStep s ptr word b .told ≡ refused n k
       → evalStep s ptr word b ≡ outcome (refused n k) s (cond (leftCounted s ptr word b) (counted s (leftId word) b) b)
   eval-refused n k e =
       ⊎-elim
-      (λ (a : EvalAccepted s ptr word b). absurd (not-both _ _ _ _ (tells (a .leaves)) e))
+      (λ (a : EvalAccepted s ptr word b). clash (sym e ∙ tells (a .leaves)))
       (λ (r : EvalRefused s ptr word b). r .leaves ∙ ap (λ (t : Told). outcome t s (cond (leftCounted s ptr word b) (counted s (leftId word) b) b)) (sym (tells (r .leaves)) ∙ e))
       eval-cases

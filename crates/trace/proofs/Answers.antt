@@ -17,7 +17,7 @@ use Rattle.trace.specs.declared.HeaderAnswer.{HeaderAnswer}
 use Rattle.trace.specs.declared.HeaderAnswer.the-variants as header
 use Rattle.trace.specs.declared.Tested.{Tested}
 use Rattle.trace.specs.declared.Tested.the-variants as tested
-use Rattle.trace.specs.Outcome.{Lent, Outcome, stepOutcome}
+use Rattle.trace.specs.Outcome.{Lent, Outcome, lent, stepOutcome}
 use Rattle.trace.specs.Open.{openTold}
 use Rattle.trace.specs.Output.{outputTold, headerNumbers, headerOf}
 use Rattle.trace.specs.Record.{testedTold, headerTold, finalizedAnswer}
@@ -104,6 +104,10 @@ step-determined r s b d e = (
   sym (steps-back r b) ∙ ap (λ (o : Outcome). steps (o .told) (o .state)) e ∙ steps-back s d,
   sym (buffers-back r b) ∙ ap (λ (o : Outcome). o .buffers) e ∙ buffers-back s d,
 )
+
+-- lent buffers are known from their cells
+pub lent-equal : {vs us cs ds ns ms : List ℕ} → vs ≡ us → cs ≡ ds → ns ≡ ms → lent vs cs ns ≡ lent us ds ms
+lent-equal e f g = cc
 
 -- a header is known from its numbers, and so is that of a finished state
 abbrev told : Told → List ℕ

@@ -4,13 +4,13 @@ use mathlib.Core.Path.{_≡_, sym, _∙_}
 use mathlib.Core.Bool.{Bool, true, false, cond, _&&_}
 use mathlib.Core.List.{List, [], _∷_}
 use Prim.Native.Nat.{ℕ, _+_, _-_, _*_, _^_, _≤_, _<_}
-use native.Mathlib.Omega.{arith}
 use lib.Dec.{ltb, eqb}
 use lib.ListN.{getD}
 use borrow.Author.Tests.{lt-ltb, le-ltb, eq-eqb, ne-eqb}
 use Rattle.field.specs.Told.{Told, accepted, refused}
 use Rattle.field.specs.Field.{p}
 use Rattle.field.specs.Answer.{ofElements}
+use Rattle.field.proofs.Tellings.{clash}
 use Rattle.trace.specs.declared.CircuitEvaluation.{CircuitEvaluation}
 use Rattle.trace.specs.Counts.{mostWires, wires, ofCounts}
 use Rattle.trace.specs.State.{wiresOf, madeOf, nextId, sound, readTurn, evalTurn}
@@ -109,7 +109,7 @@ counts-stop : (a b d : Bool) (x y z u : Told) (vs : List ℕ) (number place : �
 counts-stop true b d x y z u vs n k e = e
 counts-stop false true d x y z u vs n k e = e
 counts-stop false false true x y z u vs n k e = e
-counts-stop false false false x y z u vs n k e = let o : _≡_ {A = ℕ} 0 1 = cc in absurd (omega arith)
+counts-stop false false false x y z u vs n k e = clash e
 
 module _ (ctx clk num-read num-eval : ℕ) (b : Lent) where
   abbrev state : CircuitEvaluation

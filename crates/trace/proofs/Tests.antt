@@ -9,6 +9,7 @@ use native.Mathlib.Omega.{arith}
 use lib.Dec.{ltb, leb, eqb}
 use borrow.Author.Tests.{ltb-true, leb-true, eqb-true, ltb-false, eqb-false, lt-ltb, le-ltb, le-leb, lt-leb, eq-eqb, ne-eqb}
 use Rattle.field.specs.Told.{Told, accepted, refused}
+use Rattle.field.proofs.Tellings.{true-not-false}
 use Rattle.trace.specs.declared.CircuitEvaluation.{CircuitEvaluation}
 use Rattle.trace.specs.Counts.{mostWires, wires, ofCounts, nodeCells, room}
 use Rattle.trace.specs.State.{wiresOf, madeOf, nextId, isAccepted, sound, readTurn, evalTurn}
@@ -39,7 +40,7 @@ counts-pass most r e t h =
 
 pub told-accepted : (t : Told) → isAccepted t ≡ true → (vs : List ℕ) × (t ≡ accepted vs)
 told-accepted (accepted vs) e = (vs, refl)
-told-accepted (refused n k) e = let z : _≡_ {A = ℕ} 0 1 = cc in absurd (omega arith)
+told-accepted (refused n k) e = true-not-false (sym e)
 
 -- a state that opening and accepted steps give
 pub record Sound (s : CircuitEvaluation) : Type 0 where

@@ -14,6 +14,7 @@ use Rattle.field.specs.Field.{p, firstOver}
 use Rattle.field.specs.Pair.{cells}
 use Rattle.field.specs.Answer.{ofElements}
 use Rattle.field.proofs.Cases.{below?}
+use Rattle.field.proofs.Tellings.{clash}
 use Rattle.instruction.specs.Decode.{leftId, rightId, opcode, decodeAnswer}
 use Rattle.trace.specs.declared.CircuitEvaluation.{CircuitEvaluation}
 use Rattle.trace.specs.State.{wiresOf, madeOf, sound, readTurn, evalTurn}
@@ -32,7 +33,7 @@ abbrev pub Never : ℕ → Told → Type 0
 Never n t = (place : ℕ) → t ≡ refused n place → ⊥
 
 never-accepted : (n : ℕ) (vs : List ℕ) → Never n (accepted vs)
-never-accepted n vs k e = let z : _≡_ {A = ℕ} 0 1 = cc in absurd (omega arith)
+never-accepted n vs k e = clash (sym e)
 
 never-refused : (n m j : ℕ) → (m ≡ n → ⊥) → Never n (refused m j)
 never-refused n m j h k e = h cc

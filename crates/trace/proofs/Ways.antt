@@ -14,6 +14,7 @@ use Rattle.field.specs.Field.{p, subF}
 use Rattle.field.specs.Pair.{Pair, pair, Elements}
 use Rattle.field.specs.Answer.{pairOf}
 use Rattle.field.proofs.Cases.{below?}
+use Rattle.field.proofs.Tellings.{clash}
 use Rattle.field.proofs.Over.{elements-of}
 use Rattle.instruction.specs.Decode.{leftId, rightId, opcode, decodeAnswer}
 use Rattle.instruction.proofs.Laws.{not-instruction, instruction}
@@ -119,9 +120,6 @@ module _ (s : CircuitEvaluation) (ptr word : ℕ) (b : Lent) where
         (λ l. clash (q ∙ instruction word word-element l))
         (λ l. not-instruction word word-element l)
         (below? (opcode word) 3)
-      where
-        clash : {vs : List ℕ} → refused n k ≡ accepted vs → decodeAnswer word ≡ refused 8 0
-        clash o = let z : _≡_ {A = ℕ} 0 1 = cc in absurd (omega arith)
 
     pub eval-undecoded : (number place : ℕ) → refused number place ≡ decodeAnswer word → outcome (refused 8 (s .«evals_done»)) s b ≡ evalStep s ptr word b
     unfolding evalStep
@@ -132,14 +130,11 @@ module _ (s : CircuitEvaluation) (ptr word : ℕ) (b : Lent) where
       parts =
           ⊎-elim
           (λ l. same (d ∙ instruction word word-element l))
-          (λ l. clash (d ∙ not-instruction word word-element l))
+          (λ l. clash (sym (d ∙ not-instruction word word-element l)))
           (below? (opcode word) 3)
         where
           same : accepted (left ∷ right ∷ op ∷ []) ≡ accepted (leftId word ∷ rightId word ∷ opcode word ∷ []) → (left ≡ leftId word) × (right ≡ rightId word) × (op ≡ opcode word)
           same q = let q₀ : left ≡ leftId word = cc in let q₁ : right ≡ rightId word = cc in let q₂ : op ≡ opcode word = cc in (q₀, q₁, q₂)
-
-          clash : {n k : ℕ} → accepted (left ∷ right ∷ op ∷ []) ≡ refused n k → (left ≡ leftId word) × (right ≡ rightId word) × (op ≡ opcode word)
-          clash o = let z : _≡_ {A = ℕ} 0 1 = cc in absurd (omega arith)
 
       -- past 13, 6, 7 and 8 the step is what its operands make of it
       pub eval-operands : operandsStep s ptr left right op b ≡ evalStep s ptr word b

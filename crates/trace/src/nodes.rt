@@ -30,13 +30,16 @@ impl ReadNode {
         requires { ⌜ at + 7 ≤ length (now nodes) ⌝ }
         ensures { λ _. ⌜ now (nodes .exit) ≡ sets (now (nodes .entry)) at (readCells self) ⌝ }
     {
-        nodes[at] = self.ptr;
-        nodes[at + 1] = self.id_0;
-        nodes[at + 2] = self.v_0[0];
-        nodes[at + 3] = self.v_0[1];
-        nodes[at + 4] = self.id_1;
-        nodes[at + 5] = self.v_1[0];
-        nodes[at + 6] = self.v_1[1];
+        let cells = [
+            self.ptr,
+            self.id_0,
+            self.v_0[0],
+            self.v_0[1],
+            self.id_1,
+            self.v_1[0],
+            self.v_1[1],
+        ];
+        buffer::put(&cells, nodes, at);
     }
 }
 
@@ -45,16 +48,19 @@ impl EvalNode {
         requires { ⌜ at + 11 ≤ length (now nodes) ⌝ }
         ensures { λ _. ⌜ now (nodes .exit) ≡ sets (now (nodes .entry)) at (evalCells self) ⌝ }
     {
-        nodes[at] = self.ptr;
-        nodes[at + 1] = self.eval_op;
-        nodes[at + 2] = self.id_0;
-        nodes[at + 3] = self.v_0[0];
-        nodes[at + 4] = self.v_0[1];
-        nodes[at + 5] = self.id_1;
-        nodes[at + 6] = self.v_1[0];
-        nodes[at + 7] = self.v_1[1];
-        nodes[at + 8] = self.id_2;
-        nodes[at + 9] = self.v_2[0];
-        nodes[at + 10] = self.v_2[1];
+        let cells = [
+            self.ptr,
+            self.eval_op,
+            self.id_0,
+            self.v_0[0],
+            self.v_0[1],
+            self.id_1,
+            self.v_1[0],
+            self.v_1[1],
+            self.id_2,
+            self.v_2[0],
+            self.v_2[1],
+        ];
+        buffer::put(&cells, nodes, at);
     }
 }

@@ -23,6 +23,7 @@ use crate::Tested;
 use crate::counts::test_counts;
 use field::NOT_ELEMENT;
 use field::P;
+use field::cells;
 
 // Whether buffers of these lengths hold the whole circuit.
 pub fn has_room(num_read: u32, num_eval: u32, values: usize, counts: usize, nodes: usize) -> bool
@@ -44,22 +45,8 @@ pub fn has_room(num_read: u32, num_eval: u32, values: usize, counts: usize, node
 fn first_over(ptr: u64, word: [[u64; 2]; 2]) -> u64
     ensures { λ r. ⌜ r ≡ firstOver (readHanded ptr word) ⌝ }
 {
-    if P <= word[0][0] {
-        return 0;
-    }
-    if P <= word[0][1] {
-        return 1;
-    }
-    if P <= word[1][0] {
-        return 2;
-    }
-    if P <= word[1][1] {
-        return 3;
-    }
-    if P <= ptr {
-        return 4;
-    }
-    5
+    let handed = [word[0][0], word[0][1], word[1][0], word[1][1], ptr];
+    cells::first_over(&handed, 0, 5) as u64
 }
 
 impl CircuitEvaluation {

@@ -10,6 +10,7 @@ use lib.Dec.{ltb, leb}
 use lib.ListN.{length, take, drop}
 use borrow.Author.Tests.{le-leb, lt-leb, leb-true}
 use Rattle.field.proofs.Cases.{below?}
+use Rattle.field.proofs.Tellings.{true-not-false}
 use Rattle.numbers.specs.Form.{widthOf}
 use Rattle.words.specs.Text.{digits, valueOf, wordsOf, numbersOf}
 use Rattle.words.specs.Answer.{answerFrom}
@@ -125,7 +126,7 @@ isBytes (TooLarge k) = false
 isBytes (NoRoom k) = false
 
 clash : (x : EncodeAnswer) (n : ℕ) → isBytes x ≡ false → x ≡ Bytes n → ⊥
-clash x n f e = let z : isBytes (Bytes n) ≡ false = ap isBytes (sym e) ∙ f in let y : _≡_ {A = ℕ} 0 1 = cc in absurd (omega arith)
+clash x n f e = true-not-false (ap isBytes (sym e) ∙ f)
 
 module _ (room k at : ℕ) (text : List ℕ) (from : ℕ) where
   abbrev left : EncodeAnswer

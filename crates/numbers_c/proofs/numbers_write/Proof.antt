@@ -2,8 +2,9 @@
 -- Assumes nothing.
 use mathlib.Core.Path.{sym, ap, _∙_}
 use borrow.Author.Needs.{needs}
+use Rattle.field.specs.Codes.{code}
 use Rattle.numbers.specs.Answer.{writeTold}
-use Rattle.numbers_c.specs.Codes.{code, placeAfter}
+use Rattle.numbers_c.specs.Codes.{placeAfter}
 use Rattle.numbers_c.proofs.numbers_write.Statement.{statement}
 use Rattle.numbers_c.proofs.numbers_write.Tie as tie
 

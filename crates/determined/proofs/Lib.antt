@@ -1,0 +1,15 @@
+pub mod Same
+pub mod Field
+pub mod Buffer
+pub mod Decode
+pub mod Steps
+pub mod Evaluation
+pub mod Rows
+pub mod Runs
+pub mod Numbers
+pub mod Records
+pub mod InPlace
+pub mod Program
+pub mod Words
+pub mod NumbersC
+pub mod AceC

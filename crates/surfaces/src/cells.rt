@@ -1,0 +1,1 @@
+../../edges_steps/src/cells.rt

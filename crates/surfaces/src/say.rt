@@ -1,0 +1,1 @@
+../../edges/src/say.rt
