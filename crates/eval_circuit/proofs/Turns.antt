@@ -1,6 +1,6 @@
 -- One turn of each loop, and what a run of steps leaves.
 -- Assumes nothing.
-use mathlib.Core.Path.{_≡_, sym, ap, _∙_, subst}
+use mathlib.Core.Path.{_≡_, sym, ap, ap₂, _∙_, subst}
 use mathlib.Core.List.{List, []}
 use mathlib.Core.Logic.{_⊎_, ⊎-elim}
 use Prim.Native.Nat.{ℕ, _+_, _*_, _≤_, _<_}
@@ -41,6 +41,13 @@ stop-left (Done t) s u c ptr n k a e b q h =
 stop-left (Refused t m j) s u c ptr n k a e b q h =
     (ap (λ (x : Outcome). x .told) q, subst (λ (x : Lent). Past c (nodeCells (s .«num_read») (s .«num_eval»)) x b) (sym (ap (λ (x : Outcome). x .buffers) q)) h)
 
+-- a state with the steps done, and the next id, of another
+abbrev pub readsOf : CircuitEvaluation → CircuitEvaluation → CircuitEvaluation
+readsOf s t = record { ctx = s .ctx; clk = s .clk; «num_read» = s .«num_read»; «num_eval» = s .«num_eval»; «reads_done» = t .«reads_done»; «evals_done» = s .«evals_done»; «id_next» = t .«id_next» }
+
+abbrev pub evalsOf : CircuitEvaluation → CircuitEvaluation → CircuitEvaluation
+evalsOf s t = record { ctx = s .ctx; clk = s .clk; «num_read» = s .«num_read»; «num_eval» = s .«num_eval»; «reads_done» = s .«reads_done»; «evals_done» = t .«evals_done»; «id_next» = t .«id_next» }
+
 module _ (s : CircuitEvaluation) (memory : List ℕ) (ptr : ℕ) (b : Lent) (ok : Prepared s memory ptr b) where
   abbrev c : Circuit
   c = circuitOf s memory ptr
@@ -50,8 +57,8 @@ module _ (s : CircuitEvaluation) (memory : List ℕ) (ptr : ℕ) (b : Lent) (ok 
     read-is : stepOutcome r left ≡ outcome (accepted []) (after s (i + 1) 0) (stage c ptr (i + 1) 0 b)
     read-is = q ∙ rw (et, ew, ea, eh) (read-next s memory ptr b ok i h)
 
-    pub read-on : (u : CircuitEvaluation) → r ≡ Done u → (u ≡ after s (i + 1) 0) × (left ≡ stage c ptr (i + 1) 0 b)
-    read-on u d = done-is r u _ left _ read-is d
+    pub read-on : (u : CircuitEvaluation) → r ≡ Done u → (readsOf t u ≡ after s (i + 1) 0) × (left ≡ stage c ptr (i + 1) 0 b)
+    read-on u d = let e = done-is r u _ left _ read-is d in (ap₂ readsOf et (e .0), e .1)
 
     pub read-off : (u : CircuitEvaluation) (n j : ℕ) (o : Outcome) → r ≡ Refused u n j → stepOutcome r left ≡ o
     read-off u n j o d = not-refused r u _ n j left _ read-is d
@@ -76,10 +83,10 @@ module _ (s : CircuitEvaluation) (memory : List ℕ) (ptr : ℕ) (b : Lent) (ok 
     cases : Next c s ptr at k b ⊎ Stop c s ptr at k b
     cases = eval-next s memory ptr b ok k h at (omega arith) (λ j l. gate-early c j [] (gone j l) .0)
 
-    pub eval-on : (u : CircuitEvaluation) → r ≡ Done u → (gateAnswer c k ≡ accepted []) × (u ≡ after s (s .«num_read») (k + 1)) × (left ≡ stage c ptr (s .«num_read») (k + 1) b)
+    pub eval-on : (u : CircuitEvaluation) → r ≡ Done u → (gateAnswer c k ≡ accepted []) × (evalsOf t u ≡ after s (s .«num_read») (k + 1)) × (left ≡ stage c ptr (s .«num_read») (k + 1) b)
     eval-on u d =
         ⊎-elim
-        (λ (n : Next c s ptr at k b). let i = done-is r u _ left _ (step-is ∙ n .leads) d in (n .passed, i .0, i .1))
+        (λ (n : Next c s ptr at k b). let i = done-is r u _ left _ (step-is ∙ n .leads) d in (n .passed, ap₂ evalsOf et (i .0), i .1))
         (λ (n : Stop c s ptr at k b). clash (sym (ap (λ (x : Outcome). x .told) (rw d at (step-is ∙ n .ends)))))
         cases
 

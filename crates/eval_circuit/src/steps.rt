@@ -45,7 +45,9 @@ fn do_reads(
         let StepAnswer::Done(next) = step else {
             return step;
         };
-        read = next;
+        // A step leaves the rest of the state as it is, and not copying it is faster.
+        read.reads_done = next.reads_done;
+        read.id_next = next.id_next;
         at += 4;
         i += 1;
     }
@@ -73,7 +75,8 @@ fn do_evals(
         let StepAnswer::Done(next) = step else {
             return step;
         };
-        made = next;
+        made.evals_done = next.evals_done;
+        made.id_next = next.id_next;
         at += 1;
         i += 1;
     }

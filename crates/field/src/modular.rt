@@ -39,6 +39,7 @@ struct Wide {
     lo: u64,
 }
 
+// Each half by its own columns: so put, compilers see one multiplication of the processor in it.
 fn product(a: u64, b: u64) -> Wide
     ensures { λ r. ⌜ r .hi * 2 ^ 64 + r .lo ≡ a * b ⌝ }
 {
@@ -47,11 +48,13 @@ fn product(a: u64, b: u64) -> Wide
     let b0 = b % BASE;
     let b1 = b / BASE;
     let w = a0 * b0;
-    let t = a1 * b0 + w / BASE;
-    let m = a0 * b1 + t % BASE;
+    let x = a1 * b0;
+    let y = a0 * b1;
+    let t = x + w / BASE;
+    let m = y + t % BASE;
     Wide {
         hi: a1 * b1 + t / BASE + m / BASE,
-        lo: m % BASE * BASE + w % BASE,
+        lo: (x % BASE + y % BASE + w / BASE) % BASE * BASE + w % BASE,
     }
 }
 

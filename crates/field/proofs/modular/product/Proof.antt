@@ -11,32 +11,38 @@ sizes c = parts _ _ (c .fits .a .fits) (c .fits .b .fits)
 mul-w : tie.Need-mul-w
 mul-w c = let s = sizes c in omega arith
 
-mul-t : tie.Need-mul-t
-mul-t c = let s = sizes c in omega arith
+mul-x : tie.Need-mul-x
+mul-x c = let s = sizes c in omega arith
+
+mul-y : tie.Need-mul-y
+mul-y c = let s = sizes c in omega arith
 
 add-t : tie.Need-add-t
 add-t c = let s = sizes c in omega arith
 
-mul-m : tie.Need-mul-m
-mul-m c = let s = sizes c in omega arith
-
 add-m : tie.Need-add-m
 add-m c = let s = sizes c in omega arith
 
-mul-t10 : tie.Need-mul-t10
-mul-t10 c = let s = sizes c in omega arith
-
-add-t12 : tie.Need-add-t12
-add-t12 c = let s = sizes c in omega arith
+mul-t12 : tie.Need-mul-t12
+mul-t12 c = let s = sizes c in omega arith
 
 add-t14 : tie.Need-add-t14
 add-t14 c = let s = sizes c in omega arith
 
-mul-t16 : tie.Need-mul-t16
-mul-t16 c = let s = sizes c in omega arith
+add-t16 : tie.Need-add-t16
+add-t16 c = let s = sizes c in omega arith
 
-add-t18 : tie.Need-add-t18
-add-t18 c = let s = sizes c in omega arith
+add-t19 : tie.Need-add-t19
+add-t19 c = let s = sizes c in omega arith
+
+add-t21 : tie.Need-add-t21
+add-t21 c = let s = sizes c in omega arith
+
+mul-t23 : tie.Need-mul-t23
+mul-t23 c = let s = sizes c in omega arith
+
+add-t25 : tie.Need-add-t25
+add-t25 c = let s = sizes c in omega arith
 
 returns : tie.Need-returns
 returns c = omega (arith, halves (c .args .a) (c .args .b))
@@ -44,4 +50,4 @@ returns c = omega (arith, halves (c .args .a) (c .args .b))
 pub product-spec : {M : Type 1} → statement M
 product-spec =
     tie.close
-    (tie.spec mul-w mul-t add-t mul-m add-m mul-t10 add-t12 add-t14 mul-t16 add-t18 returns)
+    (tie.spec mul-w mul-x mul-y add-t add-m mul-t12 add-t14 add-t16 add-t19 add-t21 mul-t23 add-t25 returns)
