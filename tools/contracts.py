@@ -1,12 +1,14 @@
 #!/usr/bin/env python3
-"""Holds docs/CONTRACTS.md to the code: it names every public function and no other, and every
-must-fail edit and no other; and each public function's contract determines its outcome by form: no
+"""Holds docs/CONTRACTS.md to the code: it names every public function and no other, and every wrong
+program of the must-fail edits and no other; and each public function's contract determines its outcome by form: no
 `requires`, an `ensures` that names the result, and `.exit` of every `&mut` parameter. The line of each
 also cites the theorem of crates/determined that any two outcomes of that function are the same. A method
 is public with its type wherever its block stands, so those of private modules say `pub(crate)`."""
 import pathlib
 import re
 import sys
+
+import wrong
 
 PAPER = pathlib.Path("docs/CONTRACTS.md")
 PROOFS = pathlib.Path("crates/determined/proofs")
@@ -132,10 +134,11 @@ def complaints():
     yield from (f"{name} is public and {PAPER} does not name it" for name in code if name not in rows)
     yield from (f"{PAPER} names {name}, which is no public function" for name in rows if name not in code)
     yield from (f"{PAPER} names {name} twice" for name in set(rows) if rows.count(name) > 1)
-    edits = {f"{e.parts[1]}/{e.stem}" for e in pathlib.Path("crates").glob("*/must-fail/*.edit")}
-    named = set(re.findall(r"`(\w+/\w+)`", paper))
-    yield from (f"{PAPER} does not name the must-fail edit {edit}" for edit in sorted(edits - named))
-    yield from (f"{PAPER} names {edit}, which is no must-fail edit" for edit in sorted(named - edits))
+    yield from (fault for made in wrong.by_edit() for fault in wrong.faults(made))
+    programs, named = wrong.names(), set(re.findall(r"`(\w+/\w+)`", paper))
+    yield from (f"two must-fail edits make {name}" for name in set(programs) if programs.count(name) > 1)
+    yield from (f"{PAPER} does not name the wrong program {name}" for name in sorted(set(programs) - named))
+    yield from (f"{PAPER} names {name}, which no must-fail edit makes" for name in sorted(named - set(programs)))
     if not code:
         yield "no public function was found"
 

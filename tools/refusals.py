@@ -1,36 +1,44 @@
 #!/usr/bin/env python3
-"""Reads what the prover said of each must-fail edit, after rt ci, and fails where an edit was refused
-for its form: the proof file no longer names the code's places and needs. Such an edit would say
-nothing about the contract. (rt itself turns down an edit that does not compile.)"""
+"""Reads what the prover said of each must-fail edit, after rt ci, and fails where a wrong program was not refused at the place
+that it names (tools/wrong.py), or was refused for its form: the proof file no longer names the code's places and needs. Such
+an edit would say nothing about the contract. (rt itself turns down an edit that does not compile.)"""
 import pathlib
 import re
 import sys
 
-ERROR = re.compile(r"^\S+/(?:proofs|specs)/\S+\.antt:\d+:\d+: error: (.*)$", re.M)
-UNPROVED = re.compile(r"^fn \S+ no proof: .*`search` does not close", re.M)
+import wrong
+
+ERROR = re.compile(r"^\S+/((?:proofs|specs)/\S+\.antt):\d+:\d+: error: (.*)$", re.M)
+UNPROVED = re.compile(r"^(fn \S+): no proof: .*`search` does not close", re.M)
 FORM = ("that can be named from here", "has no field `", "but this has type `tie.Need-")
+# Said of what rests on a part that failed, or of what stands above it.
+FOLLOWS = "was not admitted"
 
 
-def fault(log):
-    errors = ERROR.findall(log)
-    misfits = [error for error in errors if any(text in error for text in FORM)]
-    if misfits:
-        return misfits[0]
-    return None if errors or UNPROVED.search(log) else "no fact is named as failing"
+def refusals(made):
+    """What is amiss in the prover's log of an edit."""
+    log = pathlib.Path("target/must-fail", made[0].crate, made[0].edit, ".log")
+    if not log.exists():
+        yield f"{made[0].crate}/{made[0].edit}: the prover left no log"
+        return
+    said = log.read_text("utf-8")
+    errors = [(place, error) for place, error in ERROR.findall(said) if FOLLOWS not in error]
+    for place, error in errors:
+        if any(text in error for text in FORM):
+            yield f"{made[0].crate}/{made[0].edit}: refused for its form at {place}: {error}"
+    places = {place for place, _ in errors} | set(UNPROVED.findall(said))
+    for program in made:
+        if program.place not in places:
+            yield f"{program.name}: no fact fails at {program.place}"
 
 
 def main():
-    edits = sorted(pathlib.Path("crates").glob("*/must-fail/*.edit"))
-    bad = 0
-    for edit in edits:
-        crate, label = edit.parts[1], edit.stem
-        log = pathlib.Path("target/must-fail", crate, label, ".log")
-        why = fault(log.read_text("utf-8")) if log.exists() else "the prover left no log"
-        if why:
-            bad += 1
-            print(f"refusals: {crate}/{label}: {why}", file=sys.stderr)
-    print(f"refusals: {len(edits)} must-fail edits, {bad} refused for their form")
-    sys.exit(1 if bad or not edits else 0)
+    edits = wrong.by_edit()
+    found = [fault for made in edits for fault in refusals(made)]
+    for fault in found:
+        print(f"refusals: {fault}", file=sys.stderr)
+    print(f"refusals: {sum(map(len, edits))} wrong programs in {len(edits)} must-fail edits, {len(found)} faults")
+    sys.exit(1 if found or not edits else 0)
 
 
 main()

@@ -10,6 +10,7 @@ import sys
 
 import contracts
 import edges
+import wrong
 
 PAGE = pathlib.Path("docs/VALIDATION.md")
 DOCUMENT = pathlib.Path("../shared/docs/01-scope.md")
@@ -76,7 +77,7 @@ class Code:
     def __init__(self):
         self.files, self.says = declarations()
         self.promises = dict(promises())
-        self.edits = {f"{e.parts[1]}/{e.stem}" for e in pathlib.Path("crates").glob("*/must-fail/*.edit")}
+        self.edits = set(wrong.names())
         self.cases = {f"{case[1]}: {case[2]}": int(case[4] or 0) for _, case in edges.cases() if case}
         self.given = {(entry, n) for n, entries in edges.GIVEN_BY.items() for entry in entries.split()}
 
@@ -115,8 +116,8 @@ def of_row(entry, number, row, code):
     if definition not in code.reached(contract):
         yield f"has the definition {definition}, to which the contract of {contract} does not come"
     yield from of_edits(row[3], contract.split("::")[0])
-    wrong = [run for run in items(row[4]) if code.cases.get(f"{entry}: {run}") != number]
-    yield from (f"has no run case '{run}' with this number" for run in wrong)
+    others = [run for run in items(row[4]) if code.cases.get(f"{entry}: {run}") != number]
+    yield from (f"has no run case '{run}' with this number" for run in others)
 
 
 def of_refusals(parts, code):
