@@ -28,6 +28,14 @@ pub first-holds : (a b : Bool) → a ≡ true → (a && b) ≡ b
 first-holds true b e = refl
 first-holds false b e = true-not-false (sym e)
 
+pub second-holds : (a b : Bool) → b ≡ true → a ≡ (a && b)
+second-holds true b e = sym e
+second-holds false b e = refl
+
+pub not-holds : (b : Bool) → (b ≡ true → ⊥) → false ≡ b
+not-holds true h = absurd (h refl)
+not-holds false h = refl
+
 pub either : (a b : Bool) → (a || b) ≡ true → (a ≡ true) ⊎ (b ≡ true)
 either true b e = inl refl
 either false b e = inr e

@@ -24,51 +24,33 @@ use Rattle.trace.proofs.Tests.{counts-of, counts-pass}
 
 -- READ
 module _ (s : CircuitEvaluation) (fit : Bool) (ptr : ℕ) (w : List (List ℕ)) where
-  pub read-unsound : sound s ≡ false → refused 13 0 ≡ readTests s fit ptr w
-  unfolding readTests readTurn
-  read-unsound h = rw (first-fails (sound s) (ltb (s .«reads_done») (s .«num_read»)) h)
+  pub read-out-of-turn : readTurn s ≡ false → refused 13 0 ≡ readTests s fit ptr w
+  unfolding readTests
+  read-out-of-turn h = rw h
 
-  pub read-late : s .«num_read» ≤ s .«reads_done» → refused 13 0 ≡ readTests s fit ptr w
-  unfolding readTests readTurn
-  read-late h = rw (second-fails (sound s) (ltb (s .«reads_done») (s .«num_read»)) (le-ltb _ _ h))
-
-  module _ (h : sound s ≡ true) (l : s .«reads_done» < s .«num_read») where
+  module _ (h : readTurn s ≡ true) where
     pub read-short : fit ≡ false → refused 6 0 ≡ readTests s fit ptr w
-    unfolding readTests readTurn
-    read-short f = rw (both-hold (sound s) (ltb (s .«reads_done») (s .«num_read»)) h (lt-ltb _ _ l), f)
+    unfolding readTests
+    read-short f = rw (h, f)
 
     pub read-cells : (x : Told) → fit ≡ true → x ≡ ofElements (readHanded ptr w) (accepted []) → x ≡ readTests s fit ptr w
-    unfolding readTests readTurn
-    read-cells x f q = rw (both-hold (sound s) (ltb (s .«reads_done») (s .«num_read»)) h (lt-ltb _ _ l), f) q
+    unfolding readTests
+    read-cells x f q = rw (h, f) q
 
 -- EVAL
 module _ (s : CircuitEvaluation) (fit : Bool) (ptr word : ℕ) where
-  abbrev turn : Bool
-  turn = eqb (s .«reads_done») (s .«num_read») && ltb (s .«evals_done») (s .«num_eval»)
+  pub eval-out-of-turn : evalTurn s ≡ false → refused 13 0 ≡ evalTests s fit ptr word
+  unfolding evalTests
+  eval-out-of-turn h = rw h
 
-  pub eval-unsound : sound s ≡ false → refused 13 0 ≡ evalTests s fit ptr word
-  unfolding evalTests evalTurn
-  eval-unsound h = rw (first-fails (sound s) turn h)
-
-  pub eval-early : (s .«reads_done» ≡ s .«num_read» → ⊥) → refused 13 0 ≡ evalTests s fit ptr word
-  unfolding evalTests evalTurn
-  eval-early h = rw (second-fails (sound s) turn (first-fails _ _ (ne-eqb _ _ h)))
-
-  pub eval-late : s .«num_eval» ≤ s .«evals_done» → refused 13 0 ≡ evalTests s fit ptr word
-  unfolding evalTests evalTurn
-  eval-late h = rw (second-fails (sound s) turn (second-fails (eqb (s .«reads_done») (s .«num_read»)) _ (le-ltb _ _ h)))
-
-  module _ (h : sound s ≡ true) (r : s .«reads_done» ≡ s .«num_read») (l : s .«evals_done» < s .«num_eval») where
-    in-turn : (sound s && turn) ≡ true
-    in-turn = both-hold (sound s) turn h (both-hold _ _ (eq-eqb _ _ r) (lt-ltb _ _ l))
-
+  module _ (h : evalTurn s ≡ true) where
     pub eval-short : fit ≡ false → refused 6 0 ≡ evalTests s fit ptr word
-    unfolding evalTests evalTurn
-    eval-short f = rw (in-turn, f)
+    unfolding evalTests
+    eval-short f = rw (h, f)
 
     pub eval-cells : (x : Told) → fit ≡ true → x ≡ ofElements (word ∷ ptr ∷ []) (accepted []) → x ≡ evalTests s fit ptr word
-    unfolding evalTests evalTurn
-    eval-cells x f q = rw (in-turn, f) q
+    unfolding evalTests
+    eval-cells x f q = rw (h, f) q
 
 -- an operand
 module _ (number gate num-wires made id : ℕ) (vs cs : List ℕ) where

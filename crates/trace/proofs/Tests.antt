@@ -1,19 +1,20 @@
 -- What the tests say of the numbers, both ways.
 -- Assumes nothing.
-use mathlib.Core.Path.{_≡_, refl, sym, ap, _∙_}
+use mathlib.Core.Path.{_≡_, refl, sym, ap, ap₂, _∙_}
 use mathlib.Core.Bool.{Bool, true, false, _&&_, _||_}
 use mathlib.Core.List.{List, []}
 use mathlib.Core.Logic.{_⊎_, ⊎-elim, inl, inr}
-use Prim.Native.Nat.{ℕ, _*_, _≤_, _<_}
+use Prim.Native.Nat.{ℕ, _-_, _*_, _≤_, _<_}
 use native.Mathlib.Omega.{arith}
 use lib.Dec.{ltb, leb, eqb}
 use borrow.Author.Tests.{ltb-true, leb-true, eqb-true, ltb-false, eqb-false, lt-ltb, le-ltb, le-leb, lt-leb, eq-eqb, ne-eqb}
 use Rattle.field.specs.Told.{Told, accepted, refused}
+use Rattle.field.proofs.Cases.{below?}
 use Rattle.field.proofs.Tellings.{true-not-false}
 use Rattle.trace.specs.declared.CircuitEvaluation.{CircuitEvaluation}
 use Rattle.trace.specs.Counts.{mostWires, wires, ofCounts, nodeCells, room}
 use Rattle.trace.specs.State.{wiresOf, madeOf, nextId, isAccepted, sound, readTurn, evalTurn}
-use Rattle.trace.proofs.Choices.{both, both-hold, first-fails, second-fails, first-holds, either, either-holds, not-stopped}
+use Rattle.trace.proofs.Choices.{both, both-hold, first-fails, second-fails, first-holds, second-holds, not-holds, either, either-holds, not-stopped}
 
 -- counts that opening accepts
 pub record Counts (most num-read num-eval : ℕ) : Type 0 where
@@ -86,6 +87,34 @@ eval-turn-of s e =
     let a = both _ _ e in
     let b = both _ _ (a .1) in
     (sound-of s (a .0), eqb-true _ _ (b .0), ltb-true _ _ (b .1))
+
+pub read-turn-is : (s : CircuitEvaluation) → sound s ≡ true → s .«reads_done» < s .«num_read» → readTurn s ≡ true
+unfolding readTurn
+read-turn-is s h l = both-hold _ _ h (lt-ltb _ _ l)
+
+pub eval-turn-is : (s : CircuitEvaluation) → sound s ≡ true → s .«reads_done» ≡ s .«num_read» → s .«evals_done» < s .«num_eval» → evalTurn s ≡ true
+unfolding evalTurn
+eval-turn-is s h e l = both-hold _ _ h (both-hold _ _ (eq-eqb _ _ e) (lt-ltb _ _ l))
+
+-- whose turn it is not
+module _ (s : CircuitEvaluation) where
+  pub read-late : s .«num_read» ≤ s .«reads_done» → false ≡ readTurn s
+  read-late h = not-holds _ (λ e. let l = read-turn-of s e .1 in omega arith)
+
+  pub read-begun : (s .«evals_done» ≡ 0 → ⊥) → false ≡ readTurn s
+  read-begun n = not-holds _ (λ e. let t = read-turn-of s e in ⊎-elim (λ q. n q) (λ q. let l = t .1 in omega arith) (t .0 .order))
+
+  pub read-no-evals : s .«num_eval» ≡ 0 → false ≡ readTurn s
+  read-no-evals z = not-holds _ (λ e. let l = read-turn-of s e .0 .counts .evals in omega arith)
+
+  pub eval-early : (s .«reads_done» ≡ s .«num_read» → ⊥) → false ≡ evalTurn s
+  eval-early n = not-holds _ (λ e. n (eval-turn-of s e .1))
+
+  pub eval-late : s .«num_eval» ≤ s .«evals_done» → false ≡ evalTurn s
+  eval-late h = not-holds _ (λ e. let l = eval-turn-of s e .2 in omega arith)
+
+  pub eval-no-reads : s .«num_read» ≡ 0 → false ≡ evalTurn s
+  eval-no-reads z = not-holds _ (λ e. let l = eval-turn-of s e .0 .counts .reads in omega arith)
 
 -- room for the whole circuit
 pub record Fits (num-read num-eval values counts nodes : ℕ) : Type 0 where
@@ -176,3 +205,41 @@ module _ (s : CircuitEvaluation) where
       ∙ first-holds reads? (evals? && (in-order? && id?)) (le-leb _ _ hr)
       ∙ first-holds evals? (in-order? && id?) (le-leb _ _ he)
       ∙ first-holds in-order? id? o)
+
+  -- size and id settle it, where the rest is known
+  abbrev pub next? : Bool
+  next? = leb (wiresOf s) mostWires && id?
+
+  sound-by-next : (s .«num_read» ≡ 0 → ⊥) → (s .«num_eval» ≡ 0 → ⊥) → s .«reads_done» ≤ s .«num_read» → s .«evals_done» ≤ s .«num_eval» → in-order? ≡ true → next? ≡ sound s
+  sound-by-next n m hr he o =
+      ⊎-elim
+      (λ (l : mostWires < wiresOf s). first-fails _ id? (lt-leb _ _ l) ∙ not-holds _ (λ e. let f = sound-of s e .counts .few in omega arith))
+      (λ (l : wiresOf s ≤ mostWires). first-holds _ id? (le-leb _ _ l) ∙ sound-by-id (counts-in-order _ _ _ _ l n m) hr he o)
+      (below? mostWires (wiresOf s))
+
+  pub read-by-next : s .«reads_done» < s .«num_read» → s .«evals_done» ≡ 0 → (s .«num_eval» ≡ 0 → ⊥) → next? ≡ readTurn s
+  unfolding readTurn
+  read-by-next l z m =
+      sound-by-next (λ e. omega arith) m (omega arith) (omega arith) (either-holds _ _ (inl (eq-eqb _ _ z))) ∙ second-holds _ _ (lt-ltb _ _ l)
+
+  pub eval-by-next : s .«reads_done» ≡ s .«num_read» → s .«evals_done» < s .«num_eval» → (s .«num_read» ≡ 0 → ⊥) → next? ≡ evalTurn s
+  unfolding evalTurn
+  eval-by-next e l n =
+      sound-by-next n (λ z. omega arith) (omega arith) (omega arith) (either-holds (eqb (s .«evals_done») 0) _ (inr (eq-eqb _ _ e)))
+      ∙ second-holds _ _ (both-hold _ _ (eq-eqb _ _ e) (lt-ltb _ _ l))
+
+-- the next id, where a wire is still to be made
+next-below : (num-wires made : ℕ) → made < num-wires → num-wires ≤ mostWires → num-wires - 1 - made ≡ nextId num-wires made
+next-below w m h l = omega arith
+
+pub too-large : (s : CircuitEvaluation) (n : ℕ) → n ≡ wiresOf s → mostWires < n → false ≡ next? s
+too-large s n e l =
+    let k : mostWires < wiresOf s = omega arith in
+    sym (first-fails _ _ (lt-leb _ _ k))
+
+pub by-id : (s : CircuitEvaluation) (n m : ℕ) → n ≡ wiresOf s → m ≡ madeOf s → madeOf s < wiresOf s → n ≤ mostWires → eqb (s .«id_next») (n - 1 - m) ≡ next? s
+by-id s n m en em h l =
+    let k : wiresOf s ≤ mostWires = omega arith in
+    ap₂ (λ (x y : ℕ). eqb (s .«id_next») (x - 1 - y)) en em
+    ∙ ap (λ (x : ℕ). eqb (s .«id_next») x) (next-below _ _ h k)
+    ∙ sym (first-holds _ _ (le-leb _ _ k))

@@ -22,8 +22,8 @@ use Rattle.trace.specs.Outcome.{Lent, Outcome, outcome, fits, unlessRefu
 use Rattle.trace.specs.Read.{readHanded, readTests, readStep}
 use Rattle.trace.specs.Eval.{evalTests, atGate, position, isMade, counted, valueOf, storedAnswer, operandAnswer, operand, operandsStep, evalStep}
 use Rattle.trace.specs.Output.{headerNumbers, headerOf, isZero, outputAnswer}
-use Rattle.trace.proofs.Tests.{sound-is}
-use Rattle.trace.proofs.StepTests.{read-late, read-cells, eval-early, eval-late, eval-cells}
+use Rattle.trace.proofs.Tests.{sound-is, read-turn-is, eval-turn-is, read-late, eval-early, eval-late}
+use Rattle.trace.proofs.StepTests.{read-out-of-turn, read-cells, eval-out-of-turn, eval-cells}
 use Rattle.trace.proofs.Ways.{read-refused, eval-refused}
 use Rattle.trace.proofs.Reached.{Ready, room-is}
 
@@ -116,10 +116,10 @@ module _ (o : Outcome) (ready : Ready o) where
   -- while READ steps lack, a READ step is accepted or tells 7
   pub read-in-turn : (ptr : ℕ) (w : List (List ℕ)) → o .state .«reads_done» < o .state .«num_read» → readStep (o .state) ptr w (o .buffers) .told ≡ ofElements (readHanded ptr w) (accepted [])
   unfolding readStep
-  read-in-turn ptr w h = rw (← read-cells s (fits s b) ptr w sound-here h _ fits-here refl) (tells-elements (readHanded ptr w) s b _ refl)
+  read-in-turn ptr w h = rw (← read-cells s (fits s b) ptr w (read-turn-is s sound-here h) _ fits-here refl) (tells-elements (readHanded ptr w) s b _ refl)
 
   pub read-over : (ptr : ℕ) (w : List (List ℕ)) → o .state .«reads_done» ≡ o .state .«num_read» → readStep (o .state) ptr w (o .buffers) ≡ outcome (refused 13 0) (o .state) (o .buffers)
-  read-over ptr w e = sym (read-refused s ptr w b 13 0 (read-late s (fits s b) ptr w (omega arith)))
+  read-over ptr w e = sym (read-refused s ptr w b 13 0 (read-out-of-turn s (fits s b) ptr w (sym (read-late s (omega arith)))))
 
   pub read-13 : (ptr : ℕ) (w : List (List ℕ)) (k : ℕ) → readStep (o .state) ptr w (o .buffers) .told ≡ refused 13 k → o .state .«reads_done» ≡ o .state .«num_read»
   read-13 ptr w k e =
@@ -143,7 +143,7 @@ module _ (o : Outcome) (ready : Ready o) where
   -- with all READ steps done and while EVAL steps lack, the first tests of an EVAL step pass or tell 7
   pub eval-in-turn : (ptr word : ℕ) → o .state .«reads_done» ≡ o .state .«num_read» → o .state .«evals_done» < o .state .«num_eval»
       → evalTests (o .state) (fits (o .state) (o .buffers)) ptr word ≡ ofElements (word ∷ ptr ∷ []) (accepted [])
-  eval-in-turn ptr word e h = sym (eval-cells s (fits s b) ptr word sound-here e h _ fits-here refl)
+  eval-in-turn ptr word e h = sym (eval-cells s (fits s b) ptr word (eval-turn-is s sound-here e h) _ fits-here refl)
 
   pub eval-over : (ptr word : ℕ) → (o .state .«reads_done» < o .state .«num_read») ⊎ (o .state .«evals_done» ≡ o .state .«num_eval»)
       → (evalTests (o .state) (fits (o .state) (o .buffers)) ptr word ≡ refused 13 0) × (evalStep (o .state) ptr word (o .buffers) ≡ outcome (refused 13 0) (o .state) (o .buffers))
@@ -152,8 +152,8 @@ module _ (o : Outcome) (ready : Ready o) where
       late : refused 13 0 ≡ evalTests s (fits s b) ptr word
       late =
           ⊎-elim
-          (λ (l : o .state .«reads_done» < o .state .«num_read»). eval-early s (fits s b) ptr word (λ e. omega arith))
-          (λ (e : o .state .«evals_done» ≡ o .state .«num_eval»). eval-late s (fits s b) ptr word (omega arith))
+          (λ (l : o .state .«reads_done» < o .state .«num_read»). eval-out-of-turn s (fits s b) ptr word (sym (eval-early s (λ e. omega arith))))
+          (λ (e : o .state .«evals_done» ≡ o .state .«num_eval»). eval-out-of-turn s (fits s b) ptr word (sym (eval-late s (omega arith))))
           h
 
   -- the two cases of an EVAL step's turn

@@ -1,13 +1,13 @@
 // What a state and the lent buffers are tested for before a step.
 ghost use mathlib.Core.Path.{_≡_};
 ghost use mathlib.Core.List.{[], _∷_};
-ghost use mathlib.Core.Bool.{_||_};
-ghost use lib.Dec.{eqb};
+ghost use mathlib.Core.Bool.{_&&_, _||_};
+ghost use lib.Dec.{eqb, leb};
 ghost use Prim.Native.Nat.{_≤_, _<_};
 ghost use Rattle.field.specs.Told.{accepted};
 ghost use Rattle.field.specs.Field.{p, firstOver};
 ghost use Rattle.field.specs.Answer.{ofElements};
-ghost use Rattle.trace.specs.Counts.{room};
+ghost use Rattle.trace.specs.Counts.{mostWires, room};
 ghost use Rattle.trace.specs.State.{wiresOf, madeOf, nextId, sound, readTurn, evalTurn};
 ghost use Rattle.trace.specs.Read.{readTests, readHanded};
 ghost use Rattle.trace.specs.Eval.{evalTests};
@@ -15,6 +15,7 @@ ghost use Rattle.trace.specs.Output.{headerOf};
 ghost use Rattle.trace.specs.Record.{testedTold};
 use crate::CircuitEvaluation;
 use crate::EVAL_CELLS;
+use crate::MAX_EVAL_CIRCUIT_WIRES;
 use crate::OUT_OF_TURN;
 use crate::READ_CELLS;
 use crate::RecordHeader;
@@ -103,6 +104,49 @@ impl CircuitEvaluation {
         self.id_next == next_id(self.num_wires() as u64, self.made() as u64)
     }
 
+    // Whether the circuit is not too large and id_next is as the steps done say.
+    fn is_next(self) -> bool
+        requires { ⌜ madeOf self < wiresOf self ⌝ }
+        ensures { λ r. ⌜ r ≡ (leb (wiresOf self) mostWires && eqb (self .«id_next») (nextId (wiresOf self) (madeOf self))) ⌝ }
+    {
+        let num_wires = self.num_wires();
+        if (MAX_EVAL_CIRCUIT_WIRES as usize) < num_wires {
+            return false;
+        }
+        self.id_next == (num_wires - 1 - self.made()) as u64
+    }
+
+    // A state in which a step is due is sound by fewer tests than another, and every step asks them.
+    fn in_read_turn(self) -> bool
+        ensures { λ r. ⌜ r ≡ readTurn self ⌝ }
+    {
+        if self.num_read <= self.reads_done {
+            return false;
+        }
+        if self.evals_done != 0 {
+            return false;
+        }
+        if self.num_eval == 0 {
+            return false;
+        }
+        self.is_next()
+    }
+
+    fn in_eval_turn(self) -> bool
+        ensures { λ r. ⌜ r ≡ evalTurn self ⌝ }
+    {
+        if self.reads_done != self.num_read {
+            return false;
+        }
+        if self.num_eval <= self.evals_done {
+            return false;
+        }
+        if self.num_read == 0 {
+            return false;
+        }
+        self.is_next()
+    }
+
     // "A step refuses in the order 13, 6, 7."
     pub(crate) fn test_read(
         self,
@@ -114,10 +158,7 @@ impl CircuitEvaluation {
     ) -> Tested
         ensures { λ r. ⌜ testedTold r ≡ readTests self (room (self .«num_read») (self .«num_eval») values counts nodes) ptr word ⌝ }
     {
-        if !self.is_sound() {
-            return Tested::Refused(OUT_OF_TURN, 0);
-        }
-        if self.num_read <= self.reads_done {
+        if !self.in_read_turn() {
             return Tested::Refused(OUT_OF_TURN, 0);
         }
         if !has_room(self.num_read, self.num_eval, values, counts, nodes) {
@@ -140,13 +181,7 @@ impl CircuitEvaluation {
     ) -> Tested
         ensures { λ r. ⌜ testedTold r ≡ evalTests self (room (self .«num_read») (self .«num_eval») values counts nodes) ptr instruction ⌝ }
     {
-        if !self.is_sound() {
-            return Tested::Refused(OUT_OF_TURN, 0);
-        }
-        if self.reads_done != self.num_read {
-            return Tested::Refused(OUT_OF_TURN, 0);
-        }
-        if self.num_eval <= self.evals_done {
+        if !self.in_eval_turn() {
             return Tested::Refused(OUT_OF_TURN, 0);
         }
         if !has_room(self.num_read, self.num_eval, values, counts, nodes) {

@@ -6,53 +6,38 @@ use Prim.Native.Nat.{suc}
 use borrow.Author.Tests.{not-true, not-false}
 use borrow.Author.Needs.{needs}
 use Rattle.field.proofs.Over.{over-here, over-later, over-none, refused-at, accepted-of}
-use Rattle.trace.proofs.StepTests.{eval-unsound, eval-early, eval-late, eval-short, eval-cells}
+use Rattle.trace.proofs.StepTests.{eval-out-of-turn, eval-short, eval-cells}
 use Rattle.trace.proofs.CircuitEvaluation.test_eval.Tie as tie
 use Rattle.trace.proofs.CircuitEvaluation.test_eval.Statement.{statement}
 
-is-sound-requires : tie.Need-is-sound-requires
-is-sound-requires c κs = search needs
+in-eval-turn-requires : tie.Need-in-eval-turn-requires
+in-eval-turn-requires c κs = search needs
 
 returns : tie.Need-returns
-returns c = eval-unsound _ _ _ _ (sym (c .before .is-sound .ensures) ∙ not-true _ (c .if1 .taken))
-
-returns-2 : tie.Need-returns-2
-returns-2 c = eval-early _ _ _ _ (search needs)
-
-returns-3 : tie.Need-returns-3
-returns-3 c = eval-late _ _ _ _ (search needs)
+returns c = eval-out-of-turn _ _ _ _ (sym (c .before .in-eval-turn .ensures) ∙ not-true _ (c .if1 .taken))
 
 has-room-requires : tie.Need-has-room-requires
 has-room-requires c κs = search needs
 
+returns-2 : tie.Need-returns-2
+returns-2 c = eval-short _ _ _ _ (sym (c .before .before .before .in-eval-turn .ensures) ∙ not-false _ (c .before .before .if1 .left)) (sym (c .before .has-room .ensures) ∙ not-true _ (c .if2 .taken))
+
+returns-3 : tie.Need-returns-3
+returns-3 c =
+    eval-cells _ _ _ _ (sym (c .before .before .before .before .in-eval-turn .ensures) ∙ not-false _ (c .before .before .before .if1 .left)) _ (sym (c .before .before .has-room .ensures) ∙ not-false _ (c .before .if2 .left))
+    (refused-at _ _ 0 (sym (over-here _ _ (search needs))) (search needs))
+
 returns-4 : tie.Need-returns-4
-returns-4 c = eval-short _ _ _ _ (sym (c .before .before .before .before .before .before .before .is-sound .ensures) ∙ not-false _ (c .before .before .before .before .before .before .if1 .left)) (search needs) (search needs) (sym (c .before .has-room .ensures) ∙ not-true _ (c .if4 .taken))
+returns-4 c =
+    eval-cells _ _ _ _ (sym (c .before .before .before .before .before .in-eval-turn .ensures) ∙ not-false _ (c .before .before .before .before .if1 .left)) _ (sym (c .before .before .before .has-room .ensures) ∙ not-false _ (c .before .before .if2 .left))
+    (refused-at _ _ 1 (sym (over-later _ _ (search needs) ∙ ap suc (over-here _ _ (search needs)))) (search needs))
 
 returns-5 : tie.Need-returns-5
 returns-5 c =
-    eval-cells _ _ _ _ (sym (c .before .before .before .before .before .before .before .before .is-sound .ensures) ∙ not-false _ (c .before .before .before .before .before .before .before .if1 .left)) (search needs) (search needs) _ (sym (c .before .before .has-room .ensures) ∙ not-false _ (c .before .if4 .left))
-    (refused-at _ _ 0 (sym (over-here _ _ (search needs))) (search needs))
-
-returns-6 : tie.Need-returns-6
-returns-6 c =
-    eval-cells _ _ _ _ (sym (c .before .before .before .before .before .before .before .before .before .is-sound .ensures) ∙ not-false _ (c .before .before .before .before .before .before .before .before .if1 .left)) (search needs) (search needs) _ (sym (c .before .before .before .has-room .ensures) ∙ not-false _ (c .before .before .if4 .left))
-    (refused-at _ _ 1 (sym (over-later _ _ (search needs) ∙ ap suc (over-here _ _ (search needs)))) (search needs))
-
-returns-7 : tie.Need-returns-7
-returns-7 c =
-    eval-cells _ _ _ _ (sym (c .before .before .before .before .before .before .before .before .before .is-sound .ensures) ∙ not-false _ (c .before .before .before .before .before .before .before .before .if1 .left)) (search needs) (search needs) _ (sym (c .before .before .before .has-room .ensures) ∙ not-false _ (c .before .before .if4 .left))
+    eval-cells _ _ _ _ (sym (c .before .before .before .before .before .in-eval-turn .ensures) ∙ not-false _ (c .before .before .before .before .if1 .left)) _ (sym (c .before .before .before .has-room .ensures) ∙ not-false _ (c .before .before .if2 .left))
     (accepted-of _ [] [] 2 (sym (over-later _ _ (search needs) ∙ ap suc (over-later _ _ (search needs) ∙ ap suc over-none))) (search needs) refl)
 
 pub test-eval-spec : {M : Type 1} → statement M
 test-eval-spec =
     tie.close
-    (tie.spec
-    is-sound-requires
-    returns
-    returns-2
-    returns-3
-    has-room-requires
-    returns-4
-    returns-5
-    returns-6
-    returns-7)
+    (tie.spec in-eval-turn-requires returns has-room-requires returns-2 returns-3 returns-4 returns-5)
