@@ -24,6 +24,7 @@ use Rattle.trace.specs.Outcome.{Lent, lent, outcome, fits}
 use Rattle.trace.specs.Eval.{evalTests, position, isMade, operandAnswer, operand, raised, combine, evalOp, evalNode, evalMade, operandsStep, evalStep}
 use Rattle.trace.specs.Calls.{names}
 use Rattle.trace.proofs.Choices.{both}
+use Rattle.trace.proofs.Tests.{eval-turn-is}
 use Rattle.trace.proofs.Stores.{same?, names-same, names-other, raised-at}
 use Rattle.trace.proofs.NextId.{next-lacking, next-later}
 use Rattle.trace.proofs.StepTests.{eval-cells, as-stored, stored-value}
@@ -157,7 +158,7 @@ module _ (s : CircuitEvaluation) (memory : List ℕ) (ptr : ℕ) (b : Lent) (ok 
         let a = ok .addresses in
         let l : at < p = omega arith in
         let f : 2 ≤ firstOver (word c k ∷ at ∷ []) = omega (arith, over-later (word c k) (at ∷ []) word-below, over-later at [] l) in
-        eval-cells _ _ _ _ (after-sound s memory ptr b ok reads k (omega arith) (omega arith) (inr refl)) refl hk _ (stage-fits s memory ptr b ok reads k (omega arith) (omega arith))
+        eval-cells _ _ _ _ (eval-turn-is _ (after-sound s memory ptr b ok reads k (omega arith) (omega arith) (inr refl)) refl hk) _ (stage-fits s memory ptr b ok reads k (omega arith) (omega arith))
         (sym (of-elements (word c k ∷ at ∷ []) (accepted []) f))
 
     undecoded : 3 ≤ opcode (word c k) → Stop c s ptr at k b

@@ -19,7 +19,7 @@ use Rattle.trace.specs.State.{wiresOf, nextId, sound}
 use Rattle.trace.specs.Outcome.{Lent, outcome, fits, valueAt}
 use Rattle.trace.specs.Read.{readNode, readHanded, readTests, readMade, readStep}
 use Rattle.trace.specs.Eval.{position}
-use Rattle.trace.proofs.Tests.{sound-is, room-by-nodes}
+use Rattle.trace.proofs.Tests.{sound-is, read-turn-is, room-by-nodes}
 use Rattle.trace.proofs.StepTests.{read-cells}
 use Rattle.trace.proofs.Ways.{read-accepted}
 use Rattle.trace.proofs.Answers.{lent-equal}
@@ -134,7 +134,7 @@ module _ (s : CircuitEvaluation) (memory : List ℕ) (ptr : ℕ) (b : Lent) (ok 
     read-passes : accepted [] ≡ readTests (after s i 0) (fits (after s i 0) (stage c ptr i 0 b)) at (wordAt memory at)
     read-passes =
         let l : 5 ≤ firstOver (readHanded (ptr + 4 * i) (wordAt memory (ptr + 4 * i))) = omega (arith, over-all (readHanded (ptr + 4 * i) (wordAt memory (ptr + 4 * i))) read-elements) in
-        read-cells _ _ _ _ (after-sound i 0 (omega arith) (omega arith) (inl refl)) hi _ (stage-fits i 0 (omega arith) (omega arith))
+        read-cells _ _ _ _ (read-turn-is _ (after-sound i 0 (omega arith) (omega arith) (inl refl)) hi) _ (stage-fits i 0 (omega arith) (omega arith))
         (sym (of-elements (readHanded at (wordAt memory at)) (accepted []) l))
 
     abbrev m : ℕ

@@ -14,6 +14,7 @@ use Rattle.field.proofs.Tellings.{true-not-false}
 use Rattle.trace.specs.declared.CircuitEvaluation.{CircuitEvaluation}
 use Rattle.trace.specs.Counts.{mostWires, wires, ofCounts, nodeCells, room}
 use Rattle.trace.specs.State.{wiresOf, madeOf, nextId, isAccepted, sound, readTurn, evalTurn}
+use Rattle.trace.proofs.NextId.{next-lacking}
 use Rattle.trace.proofs.Choices.{both, both-hold, first-fails, second-fails, first-holds, second-holds, not-holds, either, either-holds, not-stopped}
 
 -- counts that opening accepts
@@ -228,10 +229,7 @@ module _ (s : CircuitEvaluation) where
       sound-by-next n (λ z. omega arith) (omega arith) (omega arith) (either-holds (eqb (s .«evals_done») 0) _ (inr (eq-eqb _ _ e)))
       ∙ second-holds _ _ (both-hold _ _ (eq-eqb _ _ e) (lt-ltb _ _ l))
 
--- the next id, where a wire is still to be made
-next-below : (num-wires made : ℕ) → made < num-wires → num-wires ≤ mostWires → num-wires - 1 - made ≡ nextId num-wires made
-next-below w m h l = omega arith
-
+-- what the tests of size and id come to
 pub too-large : (s : CircuitEvaluation) (n : ℕ) → n ≡ wiresOf s → mostWires < n → false ≡ next? s
 too-large s n e l =
     let k : mostWires < wiresOf s = omega arith in
@@ -241,5 +239,5 @@ pub by-id : (s : CircuitEvaluation) (n m : ℕ) → n ≡ wiresOf s → m ≡ ma
 by-id s n m en em h l =
     let k : wiresOf s ≤ mostWires = omega arith in
     ap₂ (λ (x y : ℕ). eqb (s .«id_next») (x - 1 - y)) en em
-    ∙ ap (λ (x : ℕ). eqb (s .«id_next») x) (next-below _ _ h k)
+    ∙ ap (λ (x : ℕ). eqb (s .«id_next») x) (sym (next-lacking _ _ k h))
     ∙ sym (first-holds _ _ (le-leb _ _ k))
