@@ -11,8 +11,8 @@ import wrong
 ERROR = re.compile(r"^\S+/((?:proofs|specs)/\S+\.antt):\d+:\d+: error: (.*)$", re.M)
 UNPROVED = re.compile(r"^(fn \S+): no proof: .*`search` does not close", re.M)
 FORM = ("that can be named from here", "has no field `", "but this has type `tie.Need-")
-# Said of what rests on a part that failed, or of what stands above it.
-FOLLOWS = "was not admitted"
+# Said of what rests on a part that failed, and where the prover gave up: neither is a fact that fails.
+NO_FACT = ("was not admitted", "stopped at a bound of its own")
 
 
 def refusals(made):
@@ -22,7 +22,7 @@ def refusals(made):
         yield f"{made[0].crate}/{made[0].edit}: the prover left no log"
         return
     said = log.read_text("utf-8")
-    errors = [(place, error) for place, error in ERROR.findall(said) if FOLLOWS not in error]
+    errors = [(place, error) for place, error in ERROR.findall(said) if not any(text in error for text in NO_FACT)]
     for place, error in errors:
         if any(text in error for text in FORM):
             yield f"{made[0].crate}/{made[0].edit}: refused for its form at {place}: {error}"
