@@ -1,4 +1,6 @@
 // Reads at most 10,301 bytes, and writes the evaluation of what they say.
+#![tactic(auto)]
+
 use libc::{STDIN_FILENO, STDOUT_FILENO};
 use program::{MOST_INPUT, MOST_TEXT};
 

@@ -4,6 +4,8 @@
 // A state is ctx, clk, num_read, num_eval, reads_done, evals_done and, beside them, id_next. A
 // header that comes back is ctx, clk, num_read, num_eval, id_next. A run list is clk, num_read,
 // num_eval of each entry, and beside them its length.
+#![tactic(auto)]
+
 mod convert;
 pub mod fill;
 pub mod lists;

@@ -1,4 +1,6 @@
 // Cells put into a lent buffer.
+#![tactic(auto)]
+
 ghost use Rattle.std.specs.Prelude.{◌≡◌};
 ghost use Rattle.buffer.specs.Stored.{stored};
 

@@ -1,6 +1,8 @@
 // Runs the edges of document 01, a line for each case: its name, which says the call and the rule, and
 // the answer, `accept` and its numbers or `refuse`, the refusal's number and its place. Where something
 // is lent, what has become of it follows.
+#![tactic(auto)]
+
 mod bytes;
 mod elements;
 mod gates;

@@ -1,4 +1,6 @@
 // Runs the edges of whole evaluation, as the program `edges` does those of the parts before it.
+#![tactic(auto)]
+
 mod calls;
 mod cells;
 mod circuits;

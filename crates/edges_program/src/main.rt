@@ -1,5 +1,7 @@
 // Runs the edges of the program, as the program `edges` does those of the calls: the answer is the
 // program's own text, whose rows are lines of their own.
+#![tactic(auto)]
+
 mod asking;
 mod bytes;
 mod inputs;

@@ -1,4 +1,6 @@
 // Runs the edges of record writer and reader, as the program `edges` does those of the parts before them.
+#![tactic(auto)]
+
 mod bytes;
 mod cells;
 mod patch;

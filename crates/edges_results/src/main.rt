@@ -1,5 +1,7 @@
 // Runs the edges of results and of what a record is tested for, as the program `edges` does those of
 // the parts before them.
+#![tactic(auto)]
+
 mod cells;
 mod results;
 mod say;

@@ -1,4 +1,6 @@
 // Runs the edges of row fill, as the program `edges` does those of the parts before it.
+#![tactic(auto)]
+
 mod cells;
 mod filling;
 mod say;

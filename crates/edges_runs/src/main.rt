@@ -1,4 +1,6 @@
 // Runs the edges of the run list, as the program `edges` does those of the parts before it.
+#![tactic(auto)]
+
 mod adding;
 mod asking;
 mod lists;

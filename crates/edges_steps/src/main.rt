@@ -1,6 +1,8 @@
 // Runs the edges of opening and steps, as the program `edges` does those of the parts before
 // them. The state that a step gives back follows its answer, then every cell of what was lent, and of
 // one or two more behind it.
+#![tactic(auto)]
+
 mod cells;
 mod gates;
 mod opening;

@@ -1,5 +1,7 @@
 // Reads words of decimal digits and writes the bytes of their numbers, as the program `ace` reads
 // them; or says on standard error which word is none, and writes no byte.
+#![tactic(auto)]
+
 use libc::{STDERR_FILENO, STDIN_FILENO, STDOUT_FILENO};
 use words::EncodeAnswer;
 

@@ -1,4 +1,6 @@
 // Whole evaluation: a circuit in memory is checked to evaluate to zero.
+#![tactic(auto)]
+
 mod clear;
 mod region;
 mod steps;

@@ -1,4 +1,6 @@
 // Elements of the field of p = 2^64 - 2^32 + 1 (`felt`), and pairs of them (`quad`).
+#![tactic(auto)]
+
 pub mod cells;
 pub mod felt;
 mod modular;

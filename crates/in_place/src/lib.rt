@@ -1,5 +1,7 @@
 // "A second step surface changes the same state in place, over the first": each call here hands the
 // state to the call by value and stores the state that comes back.
+#![tactic(auto)]
+
 pub mod through;
 
 ghost use Rattle.std.specs.Prelude.{◌≡◌};

@@ -1,4 +1,6 @@
 // Gate words: two ids and an operation in one element.
+#![tactic(auto)]
+
 ghost use Rattle.std.specs.Prelude.{◌≡◌, ◌<◌};
 ghost use Rattle.instruction.specs.Decode.{op_number, decode_told, decode_answer};
 

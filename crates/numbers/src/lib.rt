@@ -1,5 +1,7 @@
 // "Numbers in groups of seven bits, lowest first, high bit set on all but the last, shortest form,
 // at most ten bytes."
+#![tactic(auto)]
+
 ghost use Rattle.std.specs.Prelude.{◌≡◌, ◌-◌};
 ghost use Rattle.numbers.specs.Form.{width_of, ill_formed};
 ghost use Rattle.numbers.specs.Answer.{write_told, write_answer, written, read_told, read_answer, read_below_answer};

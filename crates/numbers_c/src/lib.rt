@@ -1,6 +1,8 @@
 // The functions of `numbers` for callers in Rust and C, to which a slice is a pointer and a length.
 // Each but the first gives 0 or a refusal's number. A refusal's place goes where the place after
 // the number goes otherwise.
+#![tactic(auto)]
+
 ghost use Rattle.std.specs.Prelude.{◌≡◌};
 ghost use Rattle.field.specs.Codes.{code, value_or};
 ghost use Rattle.numbers.specs.Form.{width_of};

@@ -1,4 +1,6 @@
 // The program's answer to its input, as text.
+#![tactic(auto)]
+
 mod evaluate;
 mod read;
 mod text;

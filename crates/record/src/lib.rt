@@ -1,4 +1,6 @@
 // Records as bytes: the writer and the reader.
+#![tactic(auto)]
+
 mod find;
 mod load;
 mod put;

@@ -1,4 +1,6 @@
 // Reads instructions and puts the calls that they name, as docs/REPLAY.md says.
+#![tactic(auto)]
+
 mod buffers;
 mod calls;
 mod cells;

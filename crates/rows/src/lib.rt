@@ -1,4 +1,6 @@
 // Row fill: the rows of a record or of a finished evaluation, in a lent row buffer.
+#![tactic(auto)]
+
 mod cols;
 mod sections;
 

@@ -1,4 +1,6 @@
 // The run list: evaluations by clock, ascending.
+#![tactic(auto)]
+
 mod entries;
 
 ghost use Rattle.std.specs.Prelude.{◌≡◌};

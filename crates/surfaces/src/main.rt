@@ -1,6 +1,8 @@
 // Runs document 01's listing, and then calls that are refused, by the steps that hand the state on by
 // value and by those that change it in place. Each call's answer and the state after it are told, then
 // the buffers, and whether both surfaces came to the same.
+#![tactic(auto)]
+
 mod calls;
 mod cells;
 mod runs;

@@ -1,5 +1,7 @@
 // Wires and steps: a circuit is evaluated one READ or EVAL step at a time, over lent value cells,
 // counts and node cells. The state goes in by value and comes back with the answer.
+#![tactic(auto)]
+
 pub mod counts;
 mod nodes;
 mod operation;

@@ -1,5 +1,7 @@
 // The bytes of numbers that are written as words of decimal digits, with spaces or newlines between
 // them.
+#![tactic(auto)]
+
 mod next;
 
 ghost use Rattle.std.specs.Prelude.{◌≡◌, length};

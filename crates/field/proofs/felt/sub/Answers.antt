@@ -1,0 +1,19 @@
+-- `field::felt::sub` meets its contract.
+-- Assumes nothing.
+use Rattle.std.proofs.Common.{ℕ, [], ◌∷◌, ap, rules}
+use Rattle.field.proofs.Over.{refused_at, passed, accepted_of}
+use Rattle.field.proofs.felt.sub.Goals as goal
+
+pub returns-then-place-lt2 : goal.returns-then-place-lt2
+returns-then-place-lt2 c = refused_at _ _ _ c.first_over-place.ensures c.if-place-lt2.true
+
+pub sub_mod-requires : goal.sub_mod-requires
+sub_mod-requires c =
+    let e = c.first_over-place.ensures in
+    let ha = passed _ _ 0 e (search rules) in
+    let hb = passed _ _ 1 e (search rules) in
+    search rules
+
+pub returns : goal.returns
+returns c =
+    accepted_of _ _ _ _ c.first_over-place.ensures c.if-place-lt2.false (ap (λ (v : ℕ). v ∷ []) c.sub_mod.ensures)
