@@ -165,8 +165,8 @@ module _ (ctx clk ptr num-vars num-eval : ℕ) (memory : List ℕ) (b : Lent) (h
       (lt-ltb (p - 1) p (omega arith))))
 
   -- "21, 19, 6, 17" are never given: what comes after these tests is answered
-  pub record-passes : (t : Told) → of_record h after t ≡ t
-  record-passes t =
+  pub record_passes : (t : Told) → of_record h after t ≡ t
+  record_passes t =
       let n : (num-eval ≡ 0 → ⊥) = λ z. let s = valid.some_evals in omega arith in
       let f = valid.few in
       ap (λ (x : RecordHeader). of_record x after t) answered-header

@@ -16,7 +16,7 @@ use Rattle.trace.specs.Counts.{room}
 use Rattle.trace.specs.declared.CircuitEvaluation.{CircuitEvaluation}
 use Rattle.eval_circuit.specs.Inside.{Prepared, after}
 use Rattle.eval_circuit.specs.Evaluated.{memory_cells, region_cells, circuit_at}
-use Rattle.eval_circuit.proofs.Whole.{stops-early, stops-short, stops-over, opened_is, prepared, room_after, over_is, ends-zero, ends-otherwise}
+use Rattle.eval_circuit.proofs.Whole.{stops_early, stops_short, stops_over, opened_is, prepared, room_after, over_is, ends_zero, ends_otherwise}
 use Rattle.eval_circuit.proofs.RegionCells.{memory_most}
 use Rattle.eval_circuit.proofs.RegionTests.{Region, region_of}
 use Rattle.eval_circuit.proofs.eval_circuit.Tie as tie
@@ -76,7 +76,7 @@ enum-known-tested : tie.Need-enum-known-tested
 enum-known-tested c = search rules
 
 returns : tie.Need-returns
-returns c = stops-early _ _ _ _ _ _ _ _ _ (ap tested_told (sym c.before.tested.given.1) ∙ c.before.before.before.test-region.ensures)
+returns c = stops_early _ _ _ _ _ _ _ _ _ (ap tested_told (sym c.before.tested.given.1) ∙ c.before.before.before.test-region.ensures)
 
 enum_told : tie.Need-enum-told
 enum_told c = search rules
@@ -106,7 +106,7 @@ same-length-3 : tie.Need-same-length-3
 same-length-3 c = search rules
 
 returns-2 : tie.Need-returns-2
-returns-2 c = stops-short (start c.before.before.before.before.before.before).args.ctx (start c.before.before.before.before.before.before).args.clk _ _ _ (memory c.before.before.before.before.before.before) (buffers c.before.before.before.before.before.before) (region c.before.before.before.before.before.before) _ _ (ap open_told (sym c.enum-told2.given.1) ∙ c.before.before.new.ensures)
+returns-2 c = stops_short (start c.before.before.before.before.before.before).args.ctx (start c.before.before.before.before.before.before).args.clk _ _ _ (memory c.before.before.before.before.before.before) (buffers c.before.before.before.before.before.before) (region c.before.before.before.before.before.before) _ _ (ap open_told (sym c.enum-told2.given.1) ∙ c.before.before.new.ensures)
 
 mul-end : tie.Need-overflow-mul-end
 mul-end c = let r = region (at-tests c) in omega arith
@@ -130,7 +130,7 @@ same-length-6 : tie.Need-same-length-6
 same-length-6 c = search rules
 
 returns-3 : tie.Need-returns-3
-returns-3 c = let a = (start (at-tests c.before.before)).args in stops-over a.ctx a.clk a.ptr a.num-vars a.num-eval a.memory.now (lent a.values.now a.counts.now a.nodes.now) (region (at-tests c.before.before)) (opened-here c.before.before).0 _ (over_here c.before) (search rules)
+returns-3 c = let a = (start (at-tests c.before.before)).args in stops_over a.ctx a.clk a.ptr a.num-vars a.num-eval a.memory.now (lent a.values.now a.counts.now a.nodes.now) (region (at-tests c.before.before)) (opened-here c.before.before).0 _ (over_here c.before) (search rules)
 
 run-requires : tie.Need-run-requires
 run-requires c κs = ready c.before.before.before
@@ -157,7 +157,7 @@ returns-4 : tie.Need-returns-4
 returns-4 c =
     let k = c.before.before.before.before.before.before.before.before.before.before.before.before.before.before.before.before.before.before.before.before.before.before.before.before in
     let a = (start (at-tests k)).args in
-    ends-otherwise a.ctx a.clk a.ptr a.num-vars a.num-eval a.memory.now (lent a.values.now a.counts.now a.nodes.now) (region (at-tests k)) (opened-here k).0 _ (over_here c.before.before.before.before.before.before.before.before.before.before.before.before.before.before.before.before.before.before.before.before.before.before.before) (none_over c.before.before.before.before.before.before.before.before.before.before.before.before.before.before.before.before.before.before.before.before.before.before) _ (opened-here k).1
+    ends_otherwise a.ctx a.clk a.ptr a.num-vars a.num-eval a.memory.now (lent a.values.now a.counts.now a.nodes.now) (region (at-tests k)) (opened-here k).0 _ (over_here c.before.before.before.before.before.before.before.before.before.before.before.before.before.before.before.before.before.before.before.before.before.before.before) (none_over c.before.before.before.before.before.before.before.before.before.before.before.before.before.before.before.before.before.before.before.before.before.before) _ (opened-here k).1
     _ (lent c.before.before.before.before.before.before.before.before.before.before.before.before.before.before.before.before.before.before.run.new.1.1.1.0 c.before.before.before.before.before.before.before.before.before.before.before.before.before.before.before.before.before.before.run.new.1.1.1.1.0 c.before.before.before.before.before.before.before.before.before.before.before.before.before.before.before.before.before.before.run.new.1.1.1.1.1.0) c.before.before.before.before.before.before.before.before.before.before.before.before.before.before.before.before.before.before.run.ensures.0 c.before.before.before.before.before.before.before.before.before.before.before.before.before.before.before.before.before.before.run.ensures.1 _ _ c.before.before.before.before.before.before.before.before.before.before.enum-told3.given.1 c.before.before.before.before.before.before.clear.ensures.0 c.before.before.before.before.before.before.clear.ensures.1.0 c.before.before.before.before.before.before.clear.ensures.1.1
 
 same-length-10 : tie.Need-same-length-10
@@ -173,7 +173,7 @@ returns-5 : tie.Need-returns-5
 returns-5 c =
     let k = c.before.before.before.before.before.before.before.before.before.before.before.before.before.before.before in
     let a = (start (at-tests k)).args in
-    ends-zero a.ctx a.clk a.ptr a.num-vars a.num-eval a.memory.now (lent a.values.now a.counts.now a.nodes.now) (region (at-tests k)) (opened-here k).0 _ (over_here c.before.before.before.before.before.before.before.before.before.before.before.before.before.before) (none_over c.before.before.before.before.before.before.before.before.before.before.before.before.before) _ (opened-here k).1
+    ends_zero a.ctx a.clk a.ptr a.num-vars a.num-eval a.memory.now (lent a.values.now a.counts.now a.nodes.now) (region (at-tests k)) (opened-here k).0 _ (over_here c.before.before.before.before.before.before.before.before.before.before.before.before.before.before) (none_over c.before.before.before.before.before.before.before.before.before.before.before.before.before) _ (opened-here k).1
     _ (lent c.before.before.before.before.before.before.before.before.before.run.new.1.1.1.0 c.before.before.before.before.before.before.before.before.before.run.new.1.1.1.1.0 c.before.before.before.before.before.before.before.before.before.run.new.1.1.1.1.1.0) c.before.before.before.before.before.before.before.before.before.run.ensures.0 c.before.before.before.before.before.before.before.before.before.run.ensures.1 _ c.before.answer.given.1
 
 pub eval-circuit-spec : {M : Type 1} → statement M

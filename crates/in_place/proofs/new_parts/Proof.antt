@@ -3,7 +3,7 @@
 use mathlib.Core.Path.{sym, ap, ◌∙◌}
 use borrow.Author.Rules.{rules}
 use Rattle.trace.specs.Open.{open_told}
-use Rattle.in_place.proofs.Laws.{opens-in-place, stays-in-place}
+use Rattle.in_place.proofs.Laws.{opens_in_place, stays_in_place}
 use Rattle.in_place.proofs.new_parts.Statement.{statement}
 use Rattle.in_place.proofs.new_parts.Tie as tie
 
@@ -17,10 +17,10 @@ enum-known-opened-2 : tie.Need-enum-known-opened-2
 enum-known-opened-2 c = search rules
 
 returns : tie.Need-returns
-returns c = opens-in-place _ _ _ _ _ _ _ (ap open_told (sym c.before.opened.given.1) ∙ search rules)
+returns c = opens_in_place _ _ _ _ _ _ _ (ap open_told (sym c.before.opened.given.1) ∙ search rules)
 
 returns-2 : tie.Need-returns-2
-returns-2 c = stays-in-place _ _ _ _ _ _ _ _ (ap open_told (sym c.before.opened2.given.1) ∙ search rules)
+returns-2 c = stays_in_place _ _ _ _ _ _ _ _ (ap open_told (sym c.before.opened2.given.1) ∙ search rules)
 
 pub new-parts-spec : {M : Type 1} → statement M
 new-parts-spec =

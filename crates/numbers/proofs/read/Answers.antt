@@ -4,7 +4,7 @@ use mathlib.Core.Path.{sym, ◌∙◌}
 use Prim.Native.Nat.{◌-◌}
 use native.Mathlib.Omega.{arith}
 use borrow.Author.Rules.{rules}
-use Rattle.numbers.proofs.Reading.{reading_start, begun, read_short, read-ill, Passed, last_fits, read-last, unit-fits, more-fits, read_next}
+use Rattle.numbers.proofs.Reading.{reading_start, begun, read_short, read_ill, Passed, last_fits, read_last, unit_fits, more_fits, read_next}
 use Rattle.numbers.proofs.read.Goals as goal
 use Rattle.numbers.proofs.read.Goals.{Else-ill_formed}
 
@@ -19,7 +19,7 @@ overflow_sub-i c = begun c.loop-i.invariant
 
 pub returns-then-ill_formed : goal.returns-then-ill_formed
 returns-then-ill_formed c =
-    read-ill c.loop-i.invariant _ _ (omega arith) (omega arith) (search rules) (sym c.ill_formed.ensures ∙ c.if-ill_formed.true)
+    read_ill c.loop-i.invariant _ _ (omega arith) (omega arith) (search rules) (sym c.ill_formed.ensures ∙ c.if-ill_formed.true)
 
 passed : (c : Else-ill_formed) →
     let l = c.before.before.before.before in
@@ -41,16 +41,16 @@ pub overflow_add-result : goal.overflow_add-result
 overflow_add-result c = omega (arith, last_fits (passed c.before) (search rules))
 
 pub returns-then-b-lt128 : goal.returns-then-b-lt128
-returns-then-b-lt128 c = read-last (passed c.before) _ _ (omega arith) (omega arith) (search rules)
+returns-then-b-lt128 c = read_last (passed c.before) _ _ (omega arith) (omega arith) (search rules)
 
 pub overflow_mul-value : goal.overflow_mul-value
-overflow_mul-value c = omega (arith, more-fits (passed c.before) (search rules), unit-fits (passed c.before) (search rules))
+overflow_mul-value c = omega (arith, more_fits (passed c.before) (search rules), unit_fits (passed c.before) (search rules))
 
 pub overflow_add-value : goal.overflow_add-value
-overflow_add-value c = omega (arith, more-fits (passed c.before) (search rules), unit-fits (passed c.before) (search rules))
+overflow_add-value c = omega (arith, more_fits (passed c.before) (search rules), unit_fits (passed c.before) (search rules))
 
 pub overflow_mul-scale : goal.overflow_mul-scale
-overflow_mul-scale c = omega (arith, unit-fits (passed c.before) (search rules))
+overflow_mul-scale c = omega (arith, unit_fits (passed c.before) (search rules))
 
 pub loop-i-preserved : goal.loop-i-preserved
 loop-i-preserved c = read_next (passed c.before) _ _ (omega arith) (omega arith) (search rules)

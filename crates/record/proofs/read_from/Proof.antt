@@ -4,7 +4,7 @@ use mathlib.Core.Path.{ap, ◌∙◌}
 use borrow.Author.Rules.{rules}
 use Rattle.field.specs.Told.{accepted}
 use Rattle.record.proofs.Ways.{heard}
-use Rattle.record.proofs.Standing.{stands, refusal-answered, header-answered, leaves}
+use Rattle.record.proofs.Standing.{stands, refusal_answered, header-answered, leaves}
 use Rattle.record.proofs.read_from.Tie as tie
 use Rattle.record.proofs.read_from.Statement.{statement}
 
@@ -17,7 +17,7 @@ enum-known-found c = search rules
 returns : tie.Need-returns
 returns c =
     let e = heard c.before.before.before.find.ensures c.before.found.given.1 in
-    let q = refusal-answered _ _ _ _ e in
+    let q = refusal_answered _ _ _ _ e in
     (q, leaves _ _ _ q)
 
 enum_told : tie.Need-enum-told

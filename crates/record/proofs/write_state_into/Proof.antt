@@ -4,7 +4,7 @@ use mathlib.Core.Path.{sym, ap, ◌∙◌}
 use borrow.Author.Rules.{rules}
 use Rattle.trace.specs.Outcome.{lent}
 use Rattle.trace.specs.Record.{header_told}
-use Rattle.record.proofs.RecordWriting.{state-left, state-stops, state-answer, state-leaves}
+use Rattle.record.proofs.RecordWriting.{state_left, state_stops, state_answer, state_leaves}
 use Rattle.record.proofs.write_state_into.Statement.{statement}
 use Rattle.record.proofs.write_state_into.Tie as tie
 
@@ -29,13 +29,13 @@ returns c =
     let b = (lent a.values.now a.counts.now a.nodes.now) in
     let e = ap header_told (sym c.before.before.before.before.before.finalized2.given.1) ∙ c.before.before.before.before.before.before.before.finalized.ensures in
     let w = c.before.before.write-into.ensures in
-    (state-answer a.state b a.out.now _ e _ w.0, state-leaves a.state b a.out.now _ e _ w.1)
+    (state_answer a.state b a.out.now _ e _ w.0, state_leaves a.state b a.out.now _ e _ w.1)
 
 returns-2 : tie.Need-returns-2
 returns-2 c =
     let a = c.before.before.before.before.before.before.before.before.args in
-    let e = state-stops a.state (lent a.values.now a.counts.now a.nodes.now) a.out.now _ _ (ap header_told (sym c.before.finalized3.given.1) ∙ c.before.before.before.finalized.ensures) in
-    (e, state-left _ _ _ _ e)
+    let e = state_stops a.state (lent a.values.now a.counts.now a.nodes.now) a.out.now _ _ (ap header_told (sym c.before.finalized3.given.1) ∙ c.before.before.before.finalized.ensures) in
+    (e, state_left _ _ _ _ e)
 
 pub write-state-into-spec : {M : Type 1} → statement M
 write-state-into-spec =

@@ -10,7 +10,7 @@ use Rattle.field.specs.Told.{accepted}
 use Rattle.trace.specs.Outcome.{Lent, lent}
 use Rattle.trace.specs.Record.{tested_told, of_record}
 use Rattle.rows.specs.Fill.{num_rows}
-use Rattle.rows.proofs.Filling.{held, fill_stops, fill-short, fill_done}
+use Rattle.rows.proofs.Filling.{held, fill_stops, fill_short, fill_done}
 use Rattle.rows.proofs.fill.Tie as tie
 use Rattle.rows.proofs.fill.Statement.{statement}
 
@@ -50,10 +50,10 @@ add-num-rows : tie.Need-overflow-add-num-rows
 add-num-rows c = search rules
 
 returns-2 : tie.Need-returns-2
-returns-2 c = fill-short _ _ _ _ (passed c.before.before.before) (search rules)
+returns-2 c = fill_short _ _ _ _ (passed c.before.before.before) (search rules)
 
 returns-3 : tie.Need-returns-3
-returns-3 c = fill-short _ _ _ _ (passed c.before.before.before.before) (search rules)
+returns-3 c = fill_short _ _ _ _ (passed c.before.before.before.before) (search rules)
 
 fill-reads-requires : tie.Need-fill-reads-requires
 fill-reads-requires c κs = let h = held _ _ (passed c.before.before.before.before.before) in let r = room c.before in (h, omega arith)

@@ -7,7 +7,7 @@ use native.Mathlib.Omega.{arith}
 use borrow.Author.Tests.{ltb-true, ltb-false, eqb-true, eqb-false}
 use borrow.Author.Rules.{rules}
 use Rattle.trace.specs.Counts.{most_wires}
-use Rattle.eval_circuit.proofs.RegionTests.{too_large, no-vars, odd-vars, no_evals, odd-evals, unaligned, outside, inside}
+use Rattle.eval_circuit.proofs.RegionTests.{too_large, no_vars, odd_vars, no_evals, odd_evals, unaligned, outside, inside}
 use Rattle.eval_circuit.proofs.region.test_region.Tie as tie
 use Rattle.eval_circuit.proofs.region.test_region.Statement.{statement}
 
@@ -36,15 +36,15 @@ returns c =
 returns-2 : tie.Need-returns-2
 returns-2 c =
     ⊎_elim
-    (λ w. no-vars _ _ _ _ _ (few c.before) (search rules))
-    (λ w. odd-vars _ _ _ _ _ (few c.before) (eqb-true _ _ w.1.taken))
+    (λ w. no_vars _ _ _ _ _ (few c.before) (search rules))
+    (λ w. odd_vars _ _ _ _ _ (few c.before) (eqb-true _ _ w.1.taken))
     c.if3.branch
 
 returns-3 : tie.Need-returns-3
 returns-3 c =
     ⊎_elim
     (λ w. no_evals _ _ _ _ _ (few c.before.before.before) (search rules) (even c.before) (search rules))
-    (λ w. odd-evals _ _ _ _ _ (few c.before.before.before) (search rules) (even c.before) (ltb-true _ _ w.1.taken))
+    (λ w. odd_evals _ _ _ _ _ (few c.before.before.before) (search rules) (even c.before) (ltb-true _ _ w.1.taken))
     c.if5.branch
 
 returns-4 : tie.Need-returns-4

@@ -10,7 +10,7 @@ use Rattle.field.specs.Told.{accepted}
 use Rattle.trace.specs.Outcome.{lent}
 use Rattle.eval_circuit.specs.Circuit.{gate_answer}
 use Rattle.eval_circuit.specs.Inside.{circuit_of, after, stage}
-use Rattle.eval_circuit.proofs.Turns.{eval-on, eval-off, gone-more, evals_end}
+use Rattle.eval_circuit.proofs.Turns.{eval_on, eval_off, gone_more, evals_end}
 use Rattle.eval_circuit.proofs.steps.do_evals.Tie as tie
 use Rattle.eval_circuit.proofs.steps.do_evals.Statement.{statement}
 
@@ -72,7 +72,7 @@ returns c =
     let l = c.before.before.before.before.before.before.before.before.before.before.before.before.before.before.loop in
     let a = c.before.before.before.before.before.before.before.before.before.before.before.before.before.before.before.before.before.before.before.before.before.args in
     let h : l.i < a.state.num_eval = omega arith in
-    eval-off _ _ _ _ c.before.before.before.before.before.before.before.before.before.before.before.before.before.before.before.before.before.before.before.before.before.requires.0 _ _ _ _ _ _ _ h c.before.before.before.before.before.before.before.before.do-eval.ensures l.invariant.2 l.invariant.1 refl l.invariant.3 l.invariant.4 _ _ _ c.enum_told.given.1
+    eval_off _ _ _ _ c.before.before.before.before.before.before.before.before.before.before.before.before.before.before.before.before.before.before.before.before.before.requires.0 _ _ _ _ _ _ _ h c.before.before.before.before.before.before.before.before.do-eval.ensures l.invariant.2 l.invariant.1 refl l.invariant.3 l.invariant.4 _ _ _ c.enum_told.given.1
 
 add-at-2 : tie.Need-overflow-add-at-2 invariant-loop decreases-loop
 add-at-2 c = let ok = c.before.before.before.before.before.before.before.before.before.before.before.before.before.before.before.before.before.before.before.before.before.before.requires.0 in let l = c.before.before.before.before.before.before.before.before.before.before.before.before.before.before.before.loop in let h = ok.addresses in omega arith
@@ -88,8 +88,8 @@ loop-again c =
     let l = c.before.before.before.before.before.before.before.before.before.before.before.before.before.before.before.loop in
     let a = c.before.before.before.before.before.before.before.before.before.before.before.before.before.before.before.before.before.before.before.before.before.before.args in
     let h : l.i < a.state.num_eval = omega arith in
-    let d = eval-on _ _ _ _ c.before.before.before.before.before.before.before.before.before.before.before.before.before.before.before.before.before.before.before.before.before.before.requires.0 _ _ _ _ _ _ _ h c.before.before.before.before.before.before.before.before.before.do-eval.ensures l.invariant.2 l.invariant.1 refl l.invariant.3 l.invariant.4 _ c.before.step.given.1 in
-    (search rules, search rules, d.1, d.2, gone-more _ _ _ _ c.before.before.before.before.before.before.before.before.before.before.before.before.before.before.before.before.before.before.before.before.before.before.requires.0 _ l.invariant.4 d.0, search rules, search rules, search rules)
+    let d = eval_on _ _ _ _ c.before.before.before.before.before.before.before.before.before.before.before.before.before.before.before.before.before.before.before.before.before.before.requires.0 _ _ _ _ _ _ _ h c.before.before.before.before.before.before.before.before.before.do-eval.ensures l.invariant.2 l.invariant.1 refl l.invariant.3 l.invariant.4 _ c.before.step.given.1 in
+    (search rules, search rules, d.1, d.2, gone_more _ _ _ _ c.before.before.before.before.before.before.before.before.before.before.before.before.before.before.before.before.before.before.before.before.before.before.requires.0 _ l.invariant.4 d.0, search rules, search rules, search rules)
 
 same-length-4 : tie.Need-same-length-4 invariant-loop decreases-loop
 same-length-4 c = search rules

@@ -8,7 +8,7 @@ use borrow.Author.Rules.{rules}
 use Rattle.trace.specs.Outcome.{lent}
 use Rattle.eval_circuit.specs.Inside.{circuit_of, after, stage}
 use Rattle.eval_circuit.proofs.Turns.{read_on, read_off, reads_end}
-use Rattle.eval_circuit.proofs.Stages.{first-stage}
+use Rattle.eval_circuit.proofs.Stages.{first_stage}
 use Rattle.eval_circuit.proofs.steps.do_reads.Tie as tie
 use Rattle.eval_circuit.proofs.steps.do_reads.Statement.{statement}
 
@@ -29,7 +29,7 @@ cast-num-read : tie.Need-overflow-cast-num-read invariant-loop decreases-loop
 cast-num-read c = search rules
 
 loop-holds : tie.Need-loop-init invariant-loop decreases-loop
-loop-holds c = (search rules, search rules, c.before.before.before.before.before.requires.1, sym (first-stage _ _ _ _ c.before.before.before.before.before.requires.0), refl, refl, refl)
+loop-holds c = (search rules, search rules, c.before.before.before.before.before.requires.1, sym (first_stage _ _ _ _ c.before.before.before.before.before.requires.0), refl, refl, refl)
 
 word-at-requires : tie.Need-word-at-requires invariant-loop decreases-loop
 word-at-requires c κs = let ok = c.before.before.before.before.before.before.before.requires.0 in let l = c.before.loop in let h = ok.region in omega arith

@@ -2,7 +2,7 @@
 -- Assumes nothing.
 use borrow.Author.Rules.{rules}
 use Rattle.trace.specs.Outcome.{lent}
-use Rattle.eval_circuit.proofs.Runs.{run-done, run-refused}
+use Rattle.eval_circuit.proofs.Runs.{run_done, run_refused}
 use Rattle.eval_circuit.proofs.steps.run.Tie as tie
 use Rattle.eval_circuit.proofs.steps.run.Statement.{statement}
 
@@ -28,7 +28,7 @@ same-length-3 : tie.Need-same-length-3
 same-length-3 c = search rules
 
 returns : tie.Need-returns
-returns c = run-done _ _ _ _ c.before.before.before.before.before.before.before.before.before.before.before.before.before.before.before.before.before.before.before.before.before.requires.0 _ (lent c.before.before.before.before.before.before.before.before.before.before.before.before.before.do-steps.new.1.1.1.0 c.before.before.before.before.before.before.before.before.before.before.before.before.before.do-steps.new.1.1.1.1.0 c.before.before.before.before.before.before.before.before.before.before.before.before.before.do-steps.new.1.1.1.1.1.0) c.before.before.before.before.before.before.before.before.before.before.before.before.before.do-steps.ensures.0 c.before.before.before.before.before.before.before.before.before.before.before.before.before.do-steps.ensures.1 _ c.output-value.result c.before.before.before.before.before.steps.given.1 c.output-value.ensures
+returns c = run_done _ _ _ _ c.before.before.before.before.before.before.before.before.before.before.before.before.before.before.before.before.before.before.before.before.before.requires.0 _ (lent c.before.before.before.before.before.before.before.before.before.before.before.before.before.do-steps.new.1.1.1.0 c.before.before.before.before.before.before.before.before.before.before.before.before.before.do-steps.new.1.1.1.1.0 c.before.before.before.before.before.before.before.before.before.before.before.before.before.do-steps.new.1.1.1.1.1.0) c.before.before.before.before.before.before.before.before.before.before.before.before.before.do-steps.ensures.0 c.before.before.before.before.before.before.before.before.before.before.before.before.before.do-steps.ensures.1 _ c.output-value.result c.before.before.before.before.before.steps.given.1 c.output-value.ensures
 
 same-length-4 : tie.Need-same-length-4
 same-length-4 c = search rules
@@ -40,7 +40,7 @@ same-length-6 : tie.Need-same-length-6
 same-length-6 c = search rules
 
 returns-2 : tie.Need-returns-2
-returns-2 c = run-refused _ _ _ _ c.before.before.before.before.before.before.before.before.before.before.before.before.before.before.before.before.before.requires.0 _ (lent c.before.before.before.before.before.before.before.before.before.do-steps.new.1.1.1.0 c.before.before.before.before.before.before.before.before.before.do-steps.new.1.1.1.1.0 c.before.before.before.before.before.before.before.before.before.do-steps.new.1.1.1.1.1.0) c.before.before.before.before.before.before.before.before.before.do-steps.ensures.0 c.before.before.before.before.before.before.before.before.before.do-steps.ensures.1 _ _ _ c.before.steps2.given.1
+returns-2 c = run_refused _ _ _ _ c.before.before.before.before.before.before.before.before.before.before.before.before.before.before.before.before.before.requires.0 _ (lent c.before.before.before.before.before.before.before.before.before.do-steps.new.1.1.1.0 c.before.before.before.before.before.before.before.before.before.do-steps.new.1.1.1.1.0 c.before.before.before.before.before.before.before.before.before.do-steps.new.1.1.1.1.1.0) c.before.before.before.before.before.before.before.before.before.do-steps.ensures.0 c.before.before.before.before.before.before.before.before.before.do-steps.ensures.1 _ _ _ c.before.steps2.given.1
 
 pub run_spec : {M : Type 1} → statement M
 run_spec =

@@ -5,7 +5,7 @@ use native.Mathlib.Omega.{arith}
 use borrow.Author.Rules.{rules}
 use Rattle.numbers.specs.Answer.{read_told}
 use Rattle.record.proofs.Ways.{heard}
-use Rattle.record.proofs.Fields.{reads_fit, off_head, off_list, off-declared, off-reads, off-evals, fields-end}
+use Rattle.record.proofs.Fields.{reads_fit, off_head, off_list, off_declared, off_reads, off_evals, fields_end}
 use Rattle.record.proofs.find.find.Tie as tie
 use Rattle.record.proofs.find.find.Statement.{statement}
 
@@ -55,7 +55,7 @@ returns-3 c =
     let e1 = heard k1.before.before.before.find-Head.ensures k1.before.head.given.1 in
     let e2 = heard k2.before.before.before.find-wire-list.ensures k2.before.wires.given.1 in
     ap read_told c.enum-told3.given.1
-    ∙ off-declared _ _ _ _ _ _ e1 _ _ e2 _ _ (heard c.before.before.find-declared.ensures c.enum-told3.given.1)
+    ∙ off_declared _ _ _ _ _ _ e1 _ _ e2 _ _ (heard c.before.before.find-declared.ensures c.enum-told3.given.1)
 
 find-nodes-requires : tie.Need-find-nodes-requires
 find-nodes-requires c κs = search rules
@@ -75,7 +75,7 @@ returns-4 c =
     let e2 = heard k2.before.before.before.find-wire-list.ensures k2.before.wires.given.1 in
     let e3 = heard k3.before.before.before.find-declared.ensures k3.before.count.given.1 in
     ap read_told c.enum-told4.given.1
-    ∙ off-reads _ _ _ _ _ _ e1 _ _ e2 _ _ e3 _ _ (heard c.before.before.find-nodes.ensures c.enum-told4.given.1)
+    ∙ off_reads _ _ _ _ _ _ e1 _ _ e2 _ _ e3 _ _ (heard c.before.before.find-nodes.ensures c.enum-told4.given.1)
 
 mul-used : tie.Need-overflow-mul-used
 mul-used c = omega (arith, reads_fit _ _ _ _ _ (heard c.before.before.before.find-nodes.ensures c.before.reads.given.1))
@@ -100,7 +100,7 @@ returns-5 c =
     let e3 = heard k3.before.before.before.find-declared.ensures k3.before.count.given.1 in
     let e4 = heard k4.before.before.before.find-nodes.ensures k4.before.reads.given.1 in
     ap read_told c.enum-told5.given.1
-    ∙ off-evals _ _ _ _ _ _ e1 _ _ e2 _ _ e3 _ _ e4 _ _ (heard c.before.before.find-nodes2.ensures c.enum-told5.given.1)
+    ∙ off_evals _ _ _ _ _ _ e1 _ _ e2 _ _ e3 _ _ e4 _ _ (heard c.before.before.find-nodes2.ensures c.enum-told5.given.1)
 
 find-end-requires : tie.Need-find-end-requires
 find-end-requires c κs = search rules
@@ -117,7 +117,7 @@ returns-6 c =
     let e3 = heard k3.before.before.before.find-declared.ensures k3.before.count.given.1 in
     let e4 = heard k4.before.before.before.find-nodes.ensures k4.before.reads.given.1 in
     let e5 = heard k5.before.before.before.find-nodes2.ensures k5.before.evals.given.1 in
-    c.find_end.ensures ∙ fields-end _ _ _ _ _ _ e1 _ _ e2 _ _ e3 _ _ e4 _ _ e5
+    c.find_end.ensures ∙ fields_end _ _ _ _ _ _ e1 _ _ e2 _ _ e3 _ _ e4 _ _ e5
 
 pub find_spec : {M : Type 1} → statement M
 find_spec =

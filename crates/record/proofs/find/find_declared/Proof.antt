@@ -4,7 +4,7 @@ use mathlib.Core.Path.{ap, ◌∙◌}
 use borrow.Author.Rules.{rules}
 use Rattle.numbers.specs.Answer.{read_told}
 use Rattle.record.proofs.Ways.{heard}
-use Rattle.record.proofs.Tests.{count-off, none-declared, over-declared, other-declared, declared_is}
+use Rattle.record.proofs.Tests.{count_off, none_declared, over_declared, other_declared, declared_is}
 use Rattle.record.proofs.find.find_declared.Tie as tie
 use Rattle.record.proofs.find.find_declared.Statement.{statement}
 
@@ -20,19 +20,19 @@ enum_told c = search rules
 returns : tie.Need-returns
 returns c =
     ap read_told c.enum_told.given.1
-    ∙ count-off _ _ _ _ _ (heard c.before.before.read_below.ensures c.enum_told.given.1)
+    ∙ count_off _ _ _ _ _ (heard c.before.before.read_below.ensures c.enum_told.given.1)
 
 returns-2 : tie.Need-returns-2
-returns-2 c = none-declared _ _ _ _ _ (heard c.before.before.before.before.read_below.ensures c.before.before.found.given.1) (search rules)
+returns-2 c = none_declared _ _ _ _ _ (heard c.before.before.before.before.read_below.ensures c.before.before.found.given.1) (search rules)
 
 cast-if2 : tie.Need-overflow-cast-if2
 cast-if2 c = search rules
 
 returns-3 : tie.Need-returns-3
-returns-3 c = over-declared _ _ _ _ _ (heard c.before.before.before.before.before.read_below.ensures c.before.before.before.found.given.1) (search rules) (search rules)
+returns-3 c = over_declared _ _ _ _ _ (heard c.before.before.before.before.before.read_below.ensures c.before.before.before.found.given.1) (search rules) (search rules)
 
 returns-4 : tie.Need-returns-4
-returns-4 c = other-declared _ _ _ _ _ (heard c.before.before.before.before.before.before.read_below.ensures c.before.before.before.before.found.given.1) (search rules) (search rules) (search rules)
+returns-4 c = other_declared _ _ _ _ _ (heard c.before.before.before.before.before.before.read_below.ensures c.before.before.before.before.found.given.1) (search rules) (search rules) (search rules)
 
 returns-5 : tie.Need-returns-5
 returns-5 c = declared_is _ _ _ _ _ (heard c.before.before.before.before.before.before.read_below.ensures c.before.before.before.before.found.given.1) (search rules) (search rules) (search rules)

@@ -1,7 +1,7 @@
 -- `record::find::find_end` meets its contract.
 -- Assumes nothing.
 use borrow.Author.Rules.{rules}
-use Rattle.record.proofs.Tests.{no_evals, over-wires, other-wires, bytes_left, ends}
+use Rattle.record.proofs.Tests.{no_evals, over_wires, other_wires, bytes_left, ends}
 use Rattle.record.proofs.find.find_end.Tie as tie
 use Rattle.record.proofs.find.find_end.Statement.{statement}
 
@@ -12,7 +12,7 @@ cast-most : tie.Need-overflow-cast-most
 cast-most c = search rules
 
 returns-2 : tie.Need-returns-2
-returns-2 c = over-wires _ _ _ _ _ (search rules) (search rules)
+returns-2 c = over_wires _ _ _ _ _ (search rules) (search rules)
 
 mul-if3 : tie.Need-overflow-mul-if3
 mul-if3 c = search rules
@@ -21,7 +21,7 @@ sub-if3 : tie.Need-overflow-sub-if3
 sub-if3 c = search rules
 
 returns-3 : tie.Need-returns-3
-returns-3 c = over-wires _ _ _ _ _ (search rules) (search rules)
+returns-3 c = over_wires _ _ _ _ _ (search rules) (search rules)
 
 mul-if4 : tie.Need-overflow-mul-if4
 mul-if4 c = search rules
@@ -30,7 +30,7 @@ add-if4 : tie.Need-overflow-add-if4
 add-if4 c = search rules
 
 returns-4 : tie.Need-returns-4
-returns-4 c = other-wires _ _ _ _ _ (search rules) (search rules) (search rules)
+returns-4 c = other_wires _ _ _ _ _ (search rules) (search rules) (search rules)
 
 returns-5 : tie.Need-returns-5
 returns-5 c = bytes_left _ _ _ _ _ (search rules) (search rules) (search rules) (search rules)

@@ -4,7 +4,7 @@ use mathlib.Core.Path.{ap, ◌∙◌}
 use borrow.Author.Rules.{rules}
 use Rattle.numbers.specs.Answer.{read_told}
 use Rattle.record.proofs.Ways.{heard}
-use Rattle.record.proofs.Heads.{head-off, id-next-off, head-is}
+use Rattle.record.proofs.Heads.{head_off, id_next_off, head_is}
 use Rattle.record.proofs.find.find_head.Tie as tie
 use Rattle.record.proofs.find.find_head.Statement.{statement}
 
@@ -20,7 +20,7 @@ enum_told c = search rules
 returns : tie.Need-returns
 returns c =
     ap read_told c.enum_told.given.1
-    ∙ head-off _ _ _ (heard c.before.before.find-numbers.ensures c.enum_told.given.1)
+    ∙ head_off _ _ _ (heard c.before.before.find-numbers.ensures c.enum_told.given.1)
 
 find-numbers-requires-2 : tie.Need-find-numbers-requires-2
 find-numbers-requires-2 c κs = search rules
@@ -34,7 +34,7 @@ enum-told-2 c = search rules
 returns-2 : tie.Need-returns-2
 returns-2 c =
     ap read_told c.enum-told2.given.1
-    ∙ id-next-off _ _ _ (heard c.before.before.before.before.before.before.find-numbers.ensures c.before.before.before.before.numbers.given.1) _ _ (heard c.before.before.find-numbers2.ensures c.enum-told2.given.1)
+    ∙ id_next_off _ _ _ (heard c.before.before.before.before.before.before.find-numbers.ensures c.before.before.before.before.numbers.given.1) _ _ (heard c.before.before.find-numbers2.ensures c.enum-told2.given.1)
 
 read-requires : tie.Need-read-requires
 read-requires c κs = search rules
@@ -42,7 +42,7 @@ read-requires c κs = search rules
 returns-3 : tie.Need-returns-3
 returns-3 c =
     c.read.ensures
-    ∙ head-is _ _ _ (heard c.before.before.before.before.before.before.before.before.find-numbers.ensures c.before.before.before.before.before.before.numbers.given.1) _ _ (heard c.before.before.before.before.find-numbers2.ensures c.before.before.id_next.given.1)
+    ∙ head_is _ _ _ (heard c.before.before.before.before.before.before.before.before.find-numbers.ensures c.before.before.before.before.before.before.numbers.given.1) _ _ (heard c.before.before.before.before.find-numbers2.ensures c.before.before.id_next.given.1)
 
 pub find-head-spec : {M : Type 1} → statement M
 find-head-spec =

@@ -6,7 +6,7 @@ use native.Mathlib.Omega.{arith}
 use borrow.Author.Rules.{rules}
 use Rattle.numbers.specs.Answer.{read_told}
 use Rattle.record.proofs.Ways.{heard}
-use Rattle.record.proofs.Tests.{node_room, len_off, few-nodes, cells-off, nodes_are}
+use Rattle.record.proofs.Tests.{node_room, len_off, few_nodes, cells_off, nodes_are}
 use Rattle.record.proofs.find.find_nodes.Tie as tie
 use Rattle.record.proofs.find.find_nodes.Statement.{statement}
 
@@ -37,7 +37,7 @@ div-if1 : tie.Need-nonzero-div-if1
 div-if1 c = search rules
 
 returns-2 : tie.Need-returns-2
-returns-2 c = few-nodes _ _ _ _ _ _ _ (heard c.before.before.before.before.read.ensures c.before.before.found.given.1) (search rules) (search rules) (search rules)
+returns-2 c = few_nodes _ _ _ _ _ _ _ (heard c.before.before.before.before.read.ensures c.before.before.found.given.1) (search rules) (search rules) (search rules)
 
 mul-find-numbers : tie.Need-overflow-mul-find-numbers
 mul-find-numbers c = omega (arith, room c)
@@ -54,7 +54,7 @@ enum-told-2 c = search rules
 returns-3 : tie.Need-returns-3
 returns-3 c =
     ap read_told c.enum-told2.given.1
-    ∙ cells-off _ _ _ _ _ _ _ (heard c.before.before.before.before.before.before.before.read.ensures c.before.before.before.before.before.found.given.1) (room c.before.before.before) _ _ (heard c.before.before.find-numbers.ensures c.enum-told2.given.1)
+    ∙ cells_off _ _ _ _ _ _ _ (heard c.before.before.before.before.before.before.before.read.ensures c.before.before.before.before.before.found.given.1) (room c.before.before.before) _ _ (heard c.before.before.find-numbers.ensures c.enum-told2.given.1)
 
 returns-4 : tie.Need-returns-4
 returns-4 c = nodes_are _ _ _ _ _ _ _ (heard c.before.before.before.before.before.before.before.before.read.ensures c.before.before.before.before.before.before.found.given.1) (room c.before.before.before.before) _ _ (heard c.before.before.before.find-numbers.ensures c.before.cells.given.1)

@@ -7,7 +7,7 @@ use borrow.Author.Rules.{rules}
 use Rattle.numbers.specs.Answer.{read_told}
 use Rattle.record.specs.Numbers.{numbers_answer}
 use Rattle.record.proofs.Ways.{heard}
-use Rattle.record.proofs.Numbers.{numbers_on, numbers-off, numbers-end}
+use Rattle.record.proofs.Numbers.{numbers_on, numbers_off, numbers_end}
 use Rattle.record.proofs.find.find_numbers.Tie as tie
 use Rattle.record.proofs.find.find_numbers.Statement.{statement}
 
@@ -33,7 +33,7 @@ enum_told c = search rules
 returns : tie.Need-returns invariant-loop decreases-loop
 returns c =
     ap read_told c.enum_told.given.1
-    ∙ numbers-off _ _ _ _ _ _ _ _ (heard c.before.before.read_below.ensures c.enum_told.given.1) c.before.before.before.before.loop.invariant (search rules)
+    ∙ numbers_off _ _ _ _ _ _ _ _ (heard c.before.before.read_below.ensures c.enum_told.given.1) c.before.before.before.before.loop.invariant (search rules)
 
 add-i : tie.Need-overflow-add-i invariant-loop decreases-loop
 add-i c = search rules
@@ -45,7 +45,7 @@ loop-again : tie.Need-loop-preserved invariant-loop decreases-loop
 loop-again c = numbers_on _ _ _ _ _ _ _ _ (heard c.before.before.before.read_below.ensures c.before.found.given.1) c.before.before.before.before.before.loop.invariant (search rules)
 
 returns-2 : tie.Need-returns-2 invariant-loop decreases-loop
-returns-2 c = numbers-end _ _ _ _ _ _ c.before.loop.invariant (search rules)
+returns-2 c = numbers_end _ _ _ _ _ _ c.before.loop.invariant (search rules)
 
 pub find-numbers-spec : {M : Type 1} → statement M
 find-numbers-spec =

@@ -2,15 +2,15 @@
 -- Assumes nothing.
 use mathlib.Core.Path.{◌∙◌}
 use borrow.Author.Rules.{rules}
-use Rattle.record.proofs.Heads.{few-values, few-counts, list-fits}
+use Rattle.record.proofs.Heads.{few_values, few_counts, list-fits}
 use Rattle.record.proofs.find.find_wire_list.Tie as tie
 use Rattle.record.proofs.find.find_wire_list.Statement.{statement}
 
 returns : tie.Need-returns
-returns c = few-values _ _ _ _ _ (search rules)
+returns c = few_values _ _ _ _ _ (search rules)
 
 returns-2 : tie.Need-returns-2
-returns-2 c = few-counts _ _ _ _ _ (search rules)
+returns-2 c = few_counts _ _ _ _ _ (search rules)
 
 find-wires-requires : tie.Need-find-wires-requires
 find-wires-requires c κs = search rules

@@ -7,7 +7,7 @@ use borrow.Author.Rules.{rules}
 use Rattle.numbers.specs.Answer.{read_told}
 use Rattle.record.specs.Reading.{wires_answer}
 use Rattle.record.proofs.Ways.{heard}
-use Rattle.record.proofs.Wires.{wires-on, value-off, count-off, wires-end}
+use Rattle.record.proofs.Wires.{wires_on, value_off, count_off, wires_end}
 use Rattle.record.proofs.find.find_wires.Tie as tie
 use Rattle.record.proofs.find.find_wires.Statement.{statement}
 
@@ -33,7 +33,7 @@ enum_told c = search rules
 returns : tie.Need-returns invariant-loop decreases-loop
 returns c =
     ap read_told c.enum_told.given.1
-    ∙ value-off _ _ _ _ _ _ _ (heard c.before.before.find-numbers.ensures c.enum_told.given.1) c.before.before.before.before.loop.invariant (search rules)
+    ∙ value_off _ _ _ _ _ _ _ (heard c.before.before.find-numbers.ensures c.enum_told.given.1) c.before.before.before.before.loop.invariant (search rules)
 
 find-numbers-requires-2 : tie.Need-find-numbers-requires-2 invariant-loop decreases-loop
 find-numbers-requires-2 c κs = search rules
@@ -48,7 +48,7 @@ returns-2 : tie.Need-returns-2 invariant-loop decreases-loop
 returns-2 c =
     let e = ap read_told c.enum-told2.given.1 in
     let v = heard c.before.before.before.before.before.before.find-numbers.ensures c.before.before.before.before.value.given.1 in
-    e ∙ count-off _ _ _ _ _ _ _ _ _ v (sym c.before.before.find-numbers2.ensures ∙ e) c.before.before.before.before.before.before.before.before.loop.invariant (search rules)
+    e ∙ count_off _ _ _ _ _ _ _ _ _ v (sym c.before.before.find-numbers2.ensures ∙ e) c.before.before.before.before.before.before.before.before.loop.invariant (search rules)
 
 add-i : tie.Need-overflow-add-i invariant-loop decreases-loop
 add-i c = search rules
@@ -59,10 +59,10 @@ loop-less c = search rules
 loop-again : tie.Need-loop-preserved invariant-loop decreases-loop
 loop-again c =
     let v = heard c.before.before.before.before.before.before.before.find-numbers.ensures c.before.before.before.before.before.value.given.1 in
-    wires-on _ _ _ _ _ _ _ _ _ v (heard c.before.before.before.find-numbers2.ensures c.before.count.given.1) c.before.before.before.before.before.before.before.before.before.loop.invariant (search rules)
+    wires_on _ _ _ _ _ _ _ _ _ v (heard c.before.before.before.find-numbers2.ensures c.before.count.given.1) c.before.before.before.before.before.before.before.before.before.loop.invariant (search rules)
 
 returns-3 : tie.Need-returns-3 invariant-loop decreases-loop
-returns-3 c = wires-end _ _ _ _ _ c.before.loop.invariant (search rules)
+returns-3 c = wires_end _ _ _ _ _ c.before.loop.invariant (search rules)
 
 pub find-wires-spec : {M : Type 1} → statement M
 find-wires-spec =

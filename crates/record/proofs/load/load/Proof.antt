@@ -4,7 +4,7 @@ use mathlib.Core.Path.{◌≡◌}
 use native.Mathlib.Omega.{arith}
 use borrow.Author.Rules.{rules}
 use Rattle.record.specs.Reading.{clk_in, id_next_in, wires_in, wires_at, read_list_at}
-use Rattle.record.proofs.Loads.{ctx_is, clk_is, id-next-is, wires_are, wires-at, read-list-at, node-cells, reads_are, evals_are, header_is, record_is}
+use Rattle.record.proofs.Loads.{ctx_is, clk_is, id_next_is, wires_are, wires_at_lem, read_list_at_lem, node_cells, reads_are, evals_are, header_is, record_is}
 use Rattle.record.proofs.Standing.{wires_there}
 use Rattle.record.proofs.load.load.Tie as tie
 use Rattle.record.proofs.load.load.Statement.{statement}
@@ -17,13 +17,13 @@ clk-here : (c : tie.After-number-at4) → c.before.before.number-at2.result.valu
 clk-here c = clk_is _ _ _ _ c.before.before.before.number_at.ensures.1 c.before.before.number-at2.ensures.1 c.before.number-at3.ensures.1 _ c.before.before.number-at2.ensures.0
 
 id-next-here : (c : tie.After-number-at4) → c.before.number-at3.result.value ≡ id_next_in (start c).args.source.now
-id-next-here c = id-next-is _ _ _ _ c.before.before.before.number_at.ensures.1 c.before.before.number-at2.ensures.1 c.before.number-at3.ensures.1 _ c.before.number-at3.ensures.0
+id-next-here c = id_next_is _ _ _ _ c.before.before.before.number_at.ensures.1 c.before.before.number-at2.ensures.1 c.before.number-at3.ensures.1 _ c.before.number-at3.ensures.0
 
 wires-here : (c : tie.After-number-at4) → c.number-at4.result.value ≡ wires_in (start c).args.source.now
 wires-here c = wires_are _ _ _ _ c.before.before.before.number_at.ensures.1 c.before.before.number-at2.ensures.1 c.before.number-at3.ensures.1 _ c.number-at4.ensures.0
 
 wires-place : (c : tie.After-number-at4) → c.number-at4.result.next ≡ wires_at (start c).args.source.now
-wires-place c = wires-at _ _ _ _ c.before.before.before.number_at.ensures.1 c.before.before.number-at2.ensures.1 c.before.number-at3.ensures.1 _ c.number-at4.ensures.1
+wires-place c = wires_at_lem _ _ _ _ c.before.before.before.number_at.ensures.1 c.before.before.number-at2.ensures.1 c.before.number-at3.ensures.1 _ c.number-at4.ensures.1
 
 -- the declared count is read
 abbrev wires-read : tie.After-number-at5 → tie.After-number-at4
@@ -32,7 +32,7 @@ wires-read c = c.before.before.before.before.before.before.before.before
 nodes-place : (c : tie.After-number-at5) → c.number-at5.result.next ≡ read_list_at (start (wires-read c)).args.source.now
 nodes-place c =
     let k = wires-read c in
-    read-list-at _ _ _ _ _ (wires-here k) (wires-place k) c.before.before.before.before.before.load-wires.ensures.0 c.number-at5.ensures.1
+    read_list_at_lem _ _ _ _ _ (wires-here k) (wires-place k) c.before.before.before.before.before.load-wires.ensures.0 c.number-at5.ensures.1
 
 number-at-requires : tie.Need-number-at-requires
 number-at-requires c κs = search rules
@@ -57,7 +57,7 @@ number-at-requires-5 c κs = search rules
 load-nodes-requires : tie.Need-load-nodes-requires
 load-nodes-requires c κs =
     let k = c.before in
-    omega (arith, node-cells _ _ (nodes-place k), (start (wires-read k)).requires.room-nodes)
+    omega (arith, node_cells _ _ (nodes-place k), (start (wires-read k)).requires.room-nodes)
 
 cast-t19 : tie.Need-overflow-cast-t19
 cast-t19 c =

@@ -2,7 +2,7 @@
 -- Assumes nothing.
 use Prim.Native.Nat.{◌-◌}
 use borrow.Author.Rules.{rules}
-use Rattle.record.proofs.CellLoads.{Loading, loading-start, loading-next, loaded-place, loaded-cells}
+use Rattle.record.proofs.CellLoads.{Loading, loading_start, loading_next, loaded_place, loaded_cells}
 use Rattle.record.proofs.load.load_cells.Tie as tie
 use Rattle.record.proofs.load.load_cells.Statement.{statement}
 
@@ -14,7 +14,7 @@ abbrev decreases-loop : tie.decreases-loop
 decreases-loop source at n cells₀ from next₀ i₀ cells next i = n - i
 
 loop-holds : tie.Need-loop-init invariant-loop decreases-loop
-loop-holds c = loading-start _ _ _ _ _
+loop-holds c = loading_start _ _ _ _ _
 
 number-at-requires : tie.Need-number-at-requires invariant-loop decreases-loop
 number-at-requires c κs = search rules
@@ -35,13 +35,13 @@ loop-less : tie.Need-loop-smaller invariant-loop decreases-loop
 loop-less c = search rules
 
 loop-again : tie.Need-loop-preserved invariant-loop decreases-loop
-loop-again c = loading-next _ _ _ _ _ c.before.before.loop.invariant _ _ c.number_at.ensures.0 c.number_at.ensures.1 (search rules)
+loop-again c = loading_next _ _ _ _ _ c.before.before.loop.invariant _ _ c.number_at.ensures.0 c.number_at.ensures.1 (search rules)
 
 same_length : tie.Need-same-length invariant-loop decreases-loop
 same_length c = c.before.loop.invariant.same
 
 returns : tie.Need-returns invariant-loop decreases-loop
-returns c = (loaded-place _ _ _ _ _ c.before.loop.invariant (search rules), loaded-cells _ _ _ _ _ c.before.loop.invariant (search rules))
+returns c = (loaded_place _ _ _ _ _ c.before.loop.invariant (search rules), loaded_cells _ _ _ _ _ c.before.loop.invariant (search rules))
 
 pub load-cells-spec : {M : Type 1} → statement M
 load-cells-spec =

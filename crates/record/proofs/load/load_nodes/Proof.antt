@@ -5,7 +5,7 @@ use native.Mathlib.Omega.{arith}
 use borrow.Author.Rules.{rules}
 use Rattle.record.specs.Numbers.{number_at, next_at}
 use Rattle.record.specs.Inside.{eval_list_from}
-use Rattle.record.proofs.Loads.{evals-at, nodes-stored}
+use Rattle.record.proofs.Loads.{evals_at_lem, nodes-stored}
 use Rattle.record.proofs.load.load_nodes.Tie as tie
 use Rattle.record.proofs.load.load_nodes.Statement.{statement}
 
@@ -15,7 +15,7 @@ start c = c.before.before.before.before.before.before.before.before
 evals-place : (c : tie.After-number-at2) → c.before.before.before.load_Cells.result ≡ eval_list_from (start c).args.source.now (start c).args.at
 evals-place c =
     let r = c.before.before.before.before.before.number_at.ensures in
-    evals-at _ _ _ _ _ r.0 r.1 c.before.before.before.load_Cells.ensures.0
+    evals_at_lem _ _ _ _ _ r.0 r.1 c.before.before.before.load_Cells.ensures.0
 
 evals : (c : tie.After-number-at2) → c.number-at2.result.value ≡ number_at (start c).args.source.now (eval_list_from (start c).args.source.now (start c).args.at)
 evals c = c.number-at2.ensures.0 ∙ ap (number_at _) (evals-place c)

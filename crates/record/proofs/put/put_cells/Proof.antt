@@ -5,7 +5,7 @@ use Prim.Native.Nat.{◌-◌, ◌≤◌}
 use native.Mathlib.Omega.{arith}
 use lib.ListN.{length, take, drop}
 use borrow.Author.Rules.{rules}
-use Rattle.record.proofs.Putting.{Wrote, wrote_none, cell_room, cell-wrote}
+use Rattle.record.proofs.Putting.{Wrote, wrote_none, cell_room, cell_wrote}
 use Rattle.record.proofs.put.put_cells.Statement.{statement}
 use Rattle.record.proofs.put.put_cells.Tie as tie
 
@@ -44,7 +44,7 @@ loop-again c =
     let l = c.before.before.before.before.before.before.loop in
     let s = c.before.before.before.before.before.before.before.before.before in
     let p = c.before.before.put in
-    (search rules, cell-wrote s.args.cells.now s.args.from l.i l.invariant.1 _ _ (search rules) p.ensures.0 p.ensures.1, search rules)
+    (search rules, cell_wrote s.args.cells.now s.args.from l.i l.invariant.1 _ _ (search rules) p.ensures.0 p.ensures.1, search rules)
 
 same_length : tie.Need-same-length invariant-loop decreases-loop
 same_length c = search rules

@@ -1,7 +1,7 @@
 -- `record::put::put_nodes` meets its contract.
 -- Assumes nothing.
 use borrow.Author.Rules.{rules}
-use Rattle.record.proofs.Putting.{wrote, wrote_one, wrote_on, room_first, room-rest}
+use Rattle.record.proofs.Putting.{wrote, wrote_one, wrote_on, room_first, room_rest}
 use Rattle.record.proofs.put.put_nodes.Statement.{statement}
 use Rattle.record.proofs.put.put_nodes.Tie as tie
 
@@ -12,7 +12,7 @@ put-cells-requires : tie.Need-put-cells-requires
 put-cells-requires c κs =
     let s = c.before.before.before.before.before.before.before in
     let p = c.before.before.before.put in
-    (s.requires.0, room-rest (wrote_one _ _ _ _ _ p.ensures.0 p.ensures.1) _ s.requires.1)
+    (s.requires.0, room_rest (wrote_one _ _ _ _ _ p.ensures.0 p.ensures.1) _ s.requires.1)
 
 same_length : tie.Need-same-length
 same_length c = search rules

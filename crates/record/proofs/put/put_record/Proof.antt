@@ -7,7 +7,7 @@ use Rattle.trace.specs.declared.RecordHeader.{RecordHeader}
 use Rattle.trace.specs.Outcome.{Lent, lent}
 use Rattle.trace.specs.Record.{record_wires}
 use Rattle.record.proofs.Putting.{Wrote, wrote, wrote_one}
-use Rattle.record.proofs.RecordParts.{heads, wireList, readList, room-heads, room-wires, room-declared, room-reads, room-evals, record-wrote}
+use Rattle.record.proofs.RecordParts.{heads, wire_list, read_list, room_heads, room-wires, room_declared, room_reads, room_evals, record_wrote}
 use Rattle.record.proofs.put.put_record.Statement.{statement}
 use Rattle.record.proofs.put.put_record.Tie as tie
 
@@ -50,7 +50,7 @@ heads-put c = wrote _ _ _ _ _ (omega (arith, c.put-head.ensures.0)) c.put-head.e
 
 wires-put : (c : tie.After-put-wires) →
     let h = c.before.before.before.before in
-    Wrote h.put-head.new.1.1.0 h.put-head.result (wireList (header (start h)) (buffers (start h))) c.put-wires.new.1.1.1.0 c.put-wires.result
+    Wrote h.put-head.new.1.1.0 h.put-head.result (wire_list (header (start h)) (buffers (start h))) c.put-wires.new.1.1.1.0 c.put-wires.result
 wires-put c = wrote _ _ _ _ _ c.put-wires.ensures.0 c.put-wires.ensures.1
 
 declared-put : (c : tie.After-put) →
@@ -61,11 +61,11 @@ declared-put c = wrote_one _ _ _ _ _ c.put.ensures.0 c.put.ensures.1
 reads-put : (c : tie.After-put-nodes) →
     let p = c.before.before.before.before in
     let s = start p.before.before.before.before.before.before.before.before in
-    Wrote p.put.new.1.0 p.put.result (readList (header s) (buffers s)) c.put-nodes.new.1.1.1.1.0 c.put-nodes.result
+    Wrote p.put.new.1.0 p.put.result (read_list (header s) (buffers s)) c.put-nodes.new.1.1.1.1.0 c.put-nodes.result
 reads-put c = wrote _ _ _ _ _ c.put-nodes.ensures.0 c.put-nodes.ensures.1
 
 put-head-requires : tie.Need-put-head-requires
-put-head-requires c κs = let s = c.before.before.before.before.before.before.before.before.before in room-heads (header s) (buffers s) s.args.out.now s.requires.1
+put-head-requires c κs = let s = c.before.before.before.before.before.before.before.before.before in room_heads (header s) (buffers s) s.args.out.now s.requires.1
 
 put-wires-requires : tie.Need-put-wires-requires
 put-wires-requires c κs =
@@ -78,7 +78,7 @@ put-requires c κs =
     let w = c.before.before.before in
     let h = w.before.before.before.before in
     let s = start h in
-    room-declared (header s) (buffers s) s.args.out.now s.pre.1 (heads-put h) (wires-put w)
+    room_declared (header s) (buffers s) s.args.out.now s.pre.1 (heads-put h) (wires-put w)
 
 put-nodes-requires : tie.Need-put-nodes-requires
 put-nodes-requires c κs =
@@ -86,7 +86,7 @@ put-nodes-requires c κs =
     let w = p.before.before.before.before in
     let h = w.before.before.before.before in
     let s = start h in
-    (omega (arith, s.pre.0.held-nodes), room-reads (header s) (buffers s) s.args.out.now s.pre.1 (heads-put h) (wires-put w) (declared-put p))
+    (omega (arith, s.pre.0.held-nodes), room_reads (header s) (buffers s) s.args.out.now s.pre.1 (heads-put h) (wires-put w) (declared-put p))
 
 put-nodes-requires-2 : tie.Need-put-nodes-requires-2
 put-nodes-requires-2 c κs =
@@ -95,7 +95,7 @@ put-nodes-requires-2 c κs =
     let w = p.before.before.before.before in
     let h = w.before.before.before.before in
     let s = start h in
-    (s.pre.0.held-nodes, room-evals (header s) (buffers s) s.args.out.now s.pre.1 (heads-put h) (wires-put w) (declared-put p) (reads-put r))
+    (s.pre.0.held-nodes, room_evals (header s) (buffers s) s.args.out.now s.pre.1 (heads-put h) (wires-put w) (declared-put p) (reads-put r))
 
 same_length : tie.Need-same-length
 same_length c = search rules
@@ -108,7 +108,7 @@ returns c =
     let w = p.before.before.before.before in
     let h = w.before.before.before.before in
     let s = start h in
-    record-wrote (header s) (buffers s) s.args.out.now s.pre.1 (heads-put h) (wires-put w) (declared-put p) (reads-put r) (wrote _ _ _ _ _ e.ensures.0 e.ensures.1)
+    record_wrote (header s) (buffers s) s.args.out.now s.pre.1 (heads-put h) (wires-put w) (declared-put p) (reads-put r) (wrote _ _ _ _ _ e.ensures.0 e.ensures.1)
 
 pub put-record-spec : {M : Type 1} → statement M
 put-record-spec =

@@ -9,7 +9,7 @@ use borrow.Author.Rules.{rules}
 use Rattle.field.specs.Lists.{each}
 use Rattle.record.specs.Bytes.{wire_numbers}
 use Rattle.record.proofs.Widths.{taken}
-use Rattle.record.proofs.Putting.{Wrote, wires_none, wrote_one, wrote_then, room_first, room_next, wire-room, wire-wrote}
+use Rattle.record.proofs.Putting.{Wrote, wires_none, wrote_one, wrote_then, room_first, room_next, wire_room, wire_wrote}
 use Rattle.record.proofs.put.put_wires.Statement.{statement}
 use Rattle.record.proofs.put.put_wires.Tie as tie
 
@@ -39,7 +39,7 @@ room : (c : tie.After-put-arg invariant-loop decreases-loop) → c.before.before
 room c =
     let l = c.before.before.before.loop in
     let s = c.before.before.before.before.before.before.before in
-    wire-room s.args.values.now s.args.counts.now l.k l.invariant.1 s.args.n (search rules) s.requires.2
+    wire_room s.args.values.now s.args.counts.now l.k l.invariant.1 s.args.n (search rules) s.requires.2
 
 put-requires : tie.Need-put-requires invariant-loop decreases-loop
 put-requires c κs = room_first _ _ _ _ (room c)
@@ -93,7 +93,7 @@ loop-again c =
     let a = c.before.before.before.before.before.before.before.before.before.before.before.before.before.before.before.before.before.before.before.before.args in
     let p = c.before.before.put3 in
     let w = wrote_then (two-put c.before.before.before.before.before.before.before) _ _ _ p.ensures.0 p.ensures.1 in
-    (search rules, wire-wrote a.values.now a.counts.now l.k l.invariant.1 _ _ w, search rules)
+    (search rules, wire_wrote a.values.now a.counts.now l.k l.invariant.1 _ _ w, search rules)
 
 same_length : tie.Need-same-length invariant-loop decreases-loop
 same_length c = search rules

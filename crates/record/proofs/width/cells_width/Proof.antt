@@ -5,7 +5,7 @@ use Prim.Native.Nat.{◌-◌, ◌*◌, ◌≤◌}
 use native.Mathlib.Omega.{arith}
 use lib.ListN.{take, drop}
 use borrow.Author.Rules.{rules}
-use Rattle.record.proofs.Widths.{taken, taken_none, narrow, cells-taken}
+use Rattle.record.proofs.Widths.{taken, taken_none, narrow, cells_taken}
 use Rattle.record.proofs.width.cells_width.Statement.{statement}
 use Rattle.record.proofs.width.cells_width.Tie as tie
 
@@ -43,7 +43,7 @@ loop-again : tie.Need-loop-preserved invariant-loop decreases-loop
 loop-again c =
     let l = c.before.before.before.loop in
     let a = c.before.before.before.before.before.args in
-    (search rules, omega (arith, cells-taken a.cells.now a.from l.i (omega arith)), omega (arith, narrow _ _ c.width.ensures))
+    (search rules, omega (arith, cells_taken a.cells.now a.from l.i (omega arith)), omega (arith, narrow _ _ c.width.ensures))
 
 returns : tie.Need-returns invariant-loop decreases-loop
 returns c =

@@ -5,7 +5,7 @@ use native.Mathlib.Omega.{arith}
 use borrow.Author.Rules.{rules}
 use Rattle.trace.specs.Outcome.{lent}
 use Rattle.record.proofs.Widths.{narrow}
-use Rattle.record.proofs.RecordParts.{widths-add}
+use Rattle.record.proofs.RecordParts.{widths_add}
 use Rattle.record.proofs.width.record_width.Statement.{statement}
 use Rattle.record.proofs.width.record_width.Tie as tie
 
@@ -118,7 +118,7 @@ add-result-4 c = omega (arith, head_small c.before.before.before.before.before.b
 returns : tie.Need-returns
 returns c =
     let a = c.before.before.before.before.before.before.before.before.before.before.before.before.before.before.before.before.before.before.before.before.before.args in
-    widths-add a.header (lent a.values.now a.counts.now a.nodes.now) _ _ _ _ _ _ _ _ _ _
+    widths_add a.header (lent a.values.now a.counts.now a.nodes.now) _ _ _ _ _ _ _ _ _ _
     c.before.before.before.before.before.before.before.before.before.before.before.before.width.ensures c.before.before.before.before.before.before.before.before.before.before.width2.ensures c.before.before.before.before.before.before.before.before.before.width3.ensures c.before.before.before.before.before.before.before.before.width4.ensures c.before.before.before.before.before.before.before.wires-width.ensures.0 c.width7.ensures c.before.before.before.before.before.width5.ensures c.before.before.before.before.cells-width.ensures.0 c.before.before.width6.ensures c.before.cells-width2.ensures.0
 
 pub record-width-spec : {M : Type 1} → statement M

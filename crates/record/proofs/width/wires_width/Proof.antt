@@ -4,18 +4,18 @@ use mathlib.Core.Path.{◌≡◌, sym}
 use Prim.Native.Nat.{◌-◌, ◌*◌, ◌≤◌}
 use native.Mathlib.Omega.{arith}
 use borrow.Author.Rules.{rules}
-use Rattle.record.proofs.Widths.{narrow, wiresTaken, wires-taken-none, wires-taken}
+use Rattle.record.proofs.Widths.{narrow, wires_taken, wires_taken_none, wires_taken_lem}
 use Rattle.record.proofs.width.wires_width.Statement.{statement}
 use Rattle.record.proofs.width.wires_width.Tie as tie
 
 abbrev invariant-loop : tie.invariant-loop
-invariant-loop values counts n total₀ k₀ total k = (k ≤ n) × (total ≡ wiresTaken values counts k) × (total ≤ 30 * k)
+invariant-loop values counts n total₀ k₀ total k = (k ≤ n) × (total ≡ wires_taken values counts k) × (total ≤ 30 * k)
 
 abbrev decreases-loop : tie.decreases-loop
 decreases-loop values counts n total₀ k₀ total k = n - k
 
 loop-holds : tie.Need-loop-init invariant-loop decreases-loop
-loop-holds c = let a = c.before.before.args in (search rules, sym (wires-taken-none a.values.now a.counts.now), search rules)
+loop-holds c = let a = c.before.before.args in (search rules, sym (wires_taken_none a.values.now a.counts.now), search rules)
 
 mul-width : tie.Need-overflow-mul-width invariant-loop decreases-loop
 mul-width c = search rules
@@ -75,7 +75,7 @@ loop-again : tie.Need-loop-preserved invariant-loop decreases-loop
 loop-again c =
     let l = c.before.before.before.before.before.before.before.loop in
     let a = c.before.before.before.before.before.before.before.before.before.before.args in
-    (search rules, omega (arith, wires-taken a.values.now a.counts.now l.k), omega (arith, narrow _ _ c.width3.ensures, narrow _ _ c.before.before.width2.ensures, narrow _ _ c.before.before.before.before.width.ensures))
+    (search rules, omega (arith, wires_taken_lem a.values.now a.counts.now l.k), omega (arith, narrow _ _ c.width3.ensures, narrow _ _ c.before.before.width2.ensures, narrow _ _ c.before.before.before.before.width.ensures))
 
 returns : tie.Need-returns invariant-loop decreases-loop
 returns c =

@@ -12,7 +12,7 @@ use Rattle.trace.specs.Record.{tested_told}
 use Rattle.runs.specs.Calls.{sound_list}
 use Rattle.runs.proofs.Held.{held}
 use Rattle.runs.proofs.Calls.{sound_of, at_most, place_room}
-use Rattle.runs.proofs.Ways.{add-refused, add-counted, list-stays, taken-replaced, list-replaced, full-refused, taken-opened, list-opened}
+use Rattle.runs.proofs.Ways.{add_refused, add_counted, list_stays, taken_replaced, list-replaced, full_refused, taken_opened, list-opened}
 use Rattle.runs.proofs.Ace.add_circuit_evaluation.Tie as tie
 use Rattle.runs.proofs.Ace.add_circuit_evaluation.Statement.{statement}
 
@@ -34,8 +34,8 @@ is-sound-requires c κs = search rules
 
 returns : tie.Need-returns
 returns c =
-    let q = add-refused _ c.before.before.args.entry (sym c.before.is_sound.ensures ∙ not-true _ c.if1.true) in
-    (q, list-stays _ _ _ _ q)
+    let q = add_refused _ c.before.before.args.entry (sym c.before.is_sound.ensures ∙ not-true _ c.if1.true) in
+    (q, list_stays _ _ _ _ q)
 
 test-counts-requires : tie.Need-test-counts-requires
 test-counts-requires c κs = search rules
@@ -45,8 +45,8 @@ enum-known-tested c = search rules
 
 returns-2 : tie.Need-returns-2
 returns-2 c =
-    let q = add-counted _ c.before.before.before.before.before.before.args.entry _ _ (listed c.before.before.before) (ap tested_told (sym c.before.tested.given.1) ∙ c.before.before.before.test-counts.ensures) in
-    (q, list-stays _ _ _ _ q)
+    let q = add_counted _ c.before.before.before.before.before.before.args.entry _ _ (listed c.before.before.before) (ap tested_told (sym c.before.tested.given.1) ∙ c.before.before.before.test-counts.ensures) in
+    (q, list_stays _ _ _ _ q)
 
 enum_told : tie.Need-enum-told
 enum_told c = search rules
@@ -68,15 +68,15 @@ returns-3 c =
     let q = listed c.before.before.before.before.before.before in
     let r = counted c.before.before.before.before in
     let y = c.before.if2.true in
-    (taken-replaced _ _ _ _ i p l q r y, c.replace.ensures ∙ list-replaced _ _ _ _ i p l q r y)
+    (taken_replaced _ _ _ _ i p l q r y, c.replace.ensures ∙ list-replaced _ _ _ _ i p l q r y)
 
 cast-if3 : tie.Need-overflow-cast-if3
 cast-if3 c = search rules
 
 returns-4 : tie.Need-returns-4
 returns-4 c =
-    let q = full-refused _ _ _ _ c.before.before.before.is_at.ensures c.before.before.before.before.place_of.ensures (long c.before.before.before.before.before.before.before.before.before.before) (listed c.before.before.before.before.before.before.before) (counted c.before.before.before.before.before) c.before.before.if2.false c.if3.true in
-    (q, list-stays _ _ _ _ q)
+    let q = full_refused _ _ _ _ c.before.before.before.is_at.ensures c.before.before.before.before.place_of.ensures (long c.before.before.before.before.before.before.before.before.before.before) (listed c.before.before.before.before.before.before.before) (counted c.before.before.before.before.before) c.before.before.if2.false c.if3.true in
+    (q, list_stays _ _ _ _ q)
 
 insert-at-requires : tie.Need-insert-at-requires
 insert-at-requires c κs = place_room _ _ _ c.before.before.before.before.place_of.ensures (long c.before.before.before.before.before.before.before.before.before.before) (sound_of _ (listed c.before.before.before.before.before.before.before)) c.if3.false
@@ -90,7 +90,7 @@ returns-5 c =
     let r = counted c.before.before.before.before.before.before in
     let y = c.before.before.before.if2.false in
     let n = c.before.if3.false in
-    (taken-opened _ _ _ _ i p l q r n, c.insert-at.ensures ∙ list-opened _ _ _ _ i p l q r y n)
+    (taken_opened _ _ _ _ i p l q r n, c.insert-at.ensures ∙ list-opened _ _ _ _ i p l q r y n)
 
 pub add-circuit-evaluation-spec : {M : Type 1} → statement M
 add-circuit-evaluation-spec =
