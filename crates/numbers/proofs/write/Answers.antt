@@ -1,16 +1,15 @@
 -- `numbers::write` meets its contract.
 -- Assumes nothing.
-use mathlib.Core.Path.{sym, ap₂, ◌∙◌}
+use mathlib.Core.Path.{sym}
 use native.Mathlib.Omega.{arith}
 use borrow.Author.Rules.{rules}
 use lib.ListN.{length-set}
-use Rattle.field.specs.Told.{refused}
 use Rattle.numbers.proofs.Groups.{width_some}
 use Rattle.numbers.proofs.Writing.{no_room_answer, no_room-written, left_start, left_within, left_next, left_answer, left_done}
 use Rattle.numbers.proofs.write.Goals as goal
 
 pub returns-then-bytes_left-width : goal.returns-then-bytes_left-width
-returns-then-bytes_left-width c = (ap₂ refused (omega arith) (omega arith) ∙ sym (no_room_answer _ _ _ (omega arith)), sym (no_room-written _ _ _ (omega arith)))
+returns-then-bytes_left-width c = record { result_value = sym (no_room_answer _ _ _ (omega arith)); out_after = sym (no_room-written _ _ _ (omega arith)) }
 
 pub loop-rest-init : goal.loop-rest-init
 loop-rest-init c =
@@ -38,4 +37,4 @@ shape_of-out c = simp length-set c.loop-rest.invariant.same
 pub returns : goal.returns
 returns c =
     let l = c.loop-rest.invariant in
-    (left_answer l _ (omega arith) (search rules), left_done l (search rules))
+    record { result_value = left_answer l _ (omega arith) (search rules); out_after = left_done l (search rules) }
