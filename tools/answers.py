@@ -142,7 +142,12 @@ def fields(text, f, own):
                 rest[i] = rest[i].replace("-", "_")
         return "." + ".".join(rest)
 
-    return re.sub(r"(?:\.(?:" + TOKEN + r"))+", path, text)
+    text = re.sub(r"(?:\.(?:" + TOKEN + r"))+", path, text)
+    for step, names in f.clauses.items():
+        if len(names) > 1:
+            said = r"(?<![\w.])([\w'₀-₉]+\." + re.escape(step) + r"\.ensures)(?![.\w'-])"
+            text = re.sub(said, lambda m: "(" + ", ".join(m[1] + "." + n for n in names) + ")", text)
+    return text
 
 
 def source_of(crate, function):
@@ -241,6 +246,22 @@ def tuple_parts(text):
     return parts if len(parts) > 1 else [text]
 
 
+def by_part(said, names):
+    """A proof of all clauses at once as a record of its parts."""
+    body = said.rstrip()
+    if len(names) < 2 or re.search(r"record \{", body):
+        return said
+    cut = body.rfind(" in\n")
+    cut = cut + 4 if cut >= 0 else 0
+    if not cut and body.lstrip().startswith("let ") and " in " in body:
+        cut = body.rfind(" in ") + 4
+    head, tail = body[:cut], body[cut:].strip()
+    if tail in ("refl", "search rules"):
+        return said
+    inner = "; ".join(f"{n} = ({tail}).{i}" for i, n in enumerate(names))
+    return head + ("    " if head.endswith("\n") else " ") + "record { " + inner + " }"
+
+
 def by_name(said, names):
     """A tuple of the clauses' proofs as a record of them."""
     body = said.rstrip()
@@ -329,7 +350,7 @@ def convert(path, row, crate, function):
             binders = [b for b in eq[1].split() if b != "κs"]
             said = helpers.cite(fields(said, f, own), f.place_of_need[goal])
             if goal.startswith("returns"):
-                said = by_name(said, own["ensures"])
+                said = by_part(by_name(said, own["ensures"]), own["ensures"])
             answers += helpers.text
             helpers.text = []
             answers.append("\n".join(comments + [f"pub {goal} : goal.{goal}", f"{goal} {' '.join(binders)} ={said}"]))
@@ -358,6 +379,8 @@ def convert(path, row, crate, function):
         ans_text = "\n".join(titles + uses + [f"use {base}.Goals as goal"] + places + [""]) + "\n" + "\n\n".join(answers) + "\n"
         ans_text = re.sub(r"not_(?:true|false) _ \((c\.[^\s()]+)\)", r"\1", ans_text)
         ans_text = re.sub(r"not[_-](?:true|false) _ (c\.[^\s()]+)", r"\1", ans_text)
+        ans_text = re.sub(r"\b(?:ltb|leb|eqb)[_-](?:true|false) _ _ \((c\.[^\s()]+)\)", r"\1", ans_text)
+        ans_text = re.sub(r"\b(?:ltb|leb|eqb)[_-](?:true|false) _ _ (c\.[^\s()]+)", r"\1", ans_text)
     return left, inv_text, ans_text
 
 

@@ -23,7 +23,7 @@ use Rattle.eval_circuit.proofs.eval_circuit.Goals as goal
 use Rattle.eval_circuit.proofs.eval_circuit.Goals.{After-clear-arg-in_default-answer-2-1, After-run-arg-3-1, After-slice_known-in_default-answer-3-1, In-Opened, In-Zero, In_default, In_default-opened, Then-over-end}
 
 pub returns-in-Refused : goal.returns-in-Refused
-returns-in-Refused c = stops_early _ _ _ _ _ _ _ _ _ (ap tested_told (sym c.in-Refused.is) ∙ c.test_region-tested.ensures)
+returns-in-Refused c = record { result_value = (stops_early _ _ _ _ _ _ _ _ _ (ap tested_told (sym c.in-Refused.is) ∙ c.test_region-tested.ensures)).0; nodes_after = (stops_early _ _ _ _ _ _ _ _ _ (ap tested_told (sym c.in-Refused.is) ∙ c.test_region-tested.ensures)).1 }
 
 abbrev memory : In_default → List ℕ
 memory c = c.args.memory.now
@@ -47,7 +47,7 @@ region-2 : (c : In_default-opened) → Region c.args.ptr c.args.num_vars c.args.
 region-2 c = (region_of _ _ _ _ (accepted []) [] (sym (ap tested_told (sym c.in_default.is) ∙ c.test_region-tested.ensures))).0
 
 pub returns-in_default-opened : goal.returns-in_default-opened
-returns-in_default-opened c = stops_short c.args.ctx c.args.clk _ _ _ (memory-2 c) (buffers c) (region-2 c) _ _ (ap open_told (sym c.in_default-opened.is) ∙ c.new-opened.ensures)
+returns-in_default-opened c = record { result_value = (stops_short c.args.ctx c.args.clk _ _ _ (memory-2 c) (buffers c) (region-2 c) _ _ (ap open_told (sym c.in_default-opened.is) ∙ c.new-opened.ensures)).0; nodes_after = (stops_short c.args.ctx c.args.clk _ _ _ (memory-2 c) (buffers c) (region-2 c) _ _ (ap open_told (sym c.in_default-opened.is) ∙ c.new-opened.ensures)).1 }
 
 abbrev memory-3 : In-Opened → List ℕ
 memory-3 c = c.args.memory.now
@@ -95,7 +95,7 @@ over_here c =
     over_is (memory-4 c) a.ptr a.num_vars a.num_eval _ _ c.first_over-over.ensures (omega arith)
 
 pub returns-then-over-end : goal.returns-then-over-end
-returns-then-over-end c = let a = c.args in stops_over a.ctx a.clk a.ptr a.num_vars a.num_eval a.memory.now (lent a.values.now a.counts.now a.nodes.now) (region-4 c) (opened-here c).0 _ (over_here c) (search rules)
+returns-then-over-end c = let a = c.args in  record { result_value = (stops_over a.ctx a.clk a.ptr a.num_vars a.num_eval a.memory.now (lent a.values.now a.counts.now a.nodes.now) (region-4 c) (opened-here c).0 _ (over_here c) (search rules)).0; nodes_after = (stops_over a.ctx a.clk a.ptr a.num_vars a.num_eval a.memory.now (lent a.values.now a.counts.now a.nodes.now) (region-4 c) (opened-here c).0 _ (over_here c) (search rules)).1 }
 
 abbrev state-2 : After-run-arg-3-1 → CircuitEvaluation
 state-2 c = c.in-Opened.state
@@ -203,8 +203,9 @@ pub returns-in_default-answer : goal.returns-in_default-answer
 returns-in_default-answer c =
     let k = c in
     let a = c.args in
-    ends_otherwise a.ctx a.clk a.ptr a.num_vars a.num_eval a.memory.now (lent a.values.now a.counts.now a.nodes.now) (region-7 c) (opened-here-4 k).0 _ (over_here-4 c) (none_over-3 c) _ (opened-here-4 k).1
-    _ (lent c.run-answer.new.values c.run-answer.new.counts c.run-answer.new.nodes) c.run-answer.ensures.result_value c.run-answer.ensures.ran _ _ c.in_default-answer.is c.clear.ensures.values_after c.clear.ensures.counts_after c.clear.ensures.nodes_after
+    record { result_value = (ends_otherwise a.ctx a.clk a.ptr a.num_vars a.num_eval a.memory.now (lent a.values.now a.counts.now a.nodes.now) (region-7 c) (opened-here-4 k).0 _ (over_here-4 c) (none_over-3 c) _ (opened-here-4 k).1
+    _ (lent c.run-answer.new.values c.run-answer.new.counts c.run-answer.new.nodes) c.run-answer.ensures.result_value c.run-answer.ensures.ran _ _ c.in_default-answer.is c.clear.ensures.values_after c.clear.ensures.counts_after c.clear.ensures.nodes_after).0; nodes_after = (ends_otherwise a.ctx a.clk a.ptr a.num_vars a.num_eval a.memory.now (lent a.values.now a.counts.now a.nodes.now) (region-7 c) (opened-here-4 k).0 _ (over_here-4 c) (none_over-3 c) _ (opened-here-4 k).1
+    _ (lent c.run-answer.new.values c.run-answer.new.counts c.run-answer.new.nodes) c.run-answer.ensures.result_value c.run-answer.ensures.ran _ _ c.in_default-answer.is c.clear.ensures.values_after c.clear.ensures.counts_after c.clear.ensures.nodes_after).1 }
 
 abbrev memory-8 : In-Zero → List ℕ
 memory-8 c = c.args.memory.now
@@ -238,5 +239,6 @@ pub returns : goal.returns
 returns c =
     let k = c in
     let a = c.args in
-    ends_zero a.ctx a.clk a.ptr a.num_vars a.num_eval a.memory.now (lent a.values.now a.counts.now a.nodes.now) (region-8 c) (opened-here-5 k).0 _ (over_here-5 c) (none_over-4 c) _ (opened-here-5 k).1
-    _ (lent c.run-answer.new.values c.run-answer.new.counts c.run-answer.new.nodes) c.run-answer.ensures.result_value c.run-answer.ensures.ran _ c.in-Zero.is
+    record { result_value = (ends_zero a.ctx a.clk a.ptr a.num_vars a.num_eval a.memory.now (lent a.values.now a.counts.now a.nodes.now) (region-8 c) (opened-here-5 k).0 _ (over_here-5 c) (none_over-4 c) _ (opened-here-5 k).1
+    _ (lent c.run-answer.new.values c.run-answer.new.counts c.run-answer.new.nodes) c.run-answer.ensures.result_value c.run-answer.ensures.ran _ c.in-Zero.is).0; nodes_after = (ends_zero a.ctx a.clk a.ptr a.num_vars a.num_eval a.memory.now (lent a.values.now a.counts.now a.nodes.now) (region-8 c) (opened-here-5 k).0 _ (over_here-5 c) (none_over-4 c) _ (opened-here-5 k).1
+    _ (lent c.run-answer.new.values c.run-answer.new.counts c.run-answer.new.nodes) c.run-answer.ensures.result_value c.run-answer.ensures.ran _ c.in-Zero.is).1 }

@@ -21,7 +21,7 @@ returns-in_default c =
     let l = c.loop-i in
     let a = c.args in
     let h : l.i < a.state.num_eval = omega arith in
-    eval_off _ _ _ _ c.requires.0 _ _ _ _ _ _ _ h c.do_eval-step.ensures l.invariant.2 l.invariant.1 refl l.invariant.3 l.invariant.4 _ _ _ c.in_default.is
+    record { result_value = (eval_off _ _ _ _ c.requires.0 _ _ _ _ _ _ _ h c.do_eval-step.ensures l.invariant.2 l.invariant.1 refl l.invariant.3 l.invariant.4 _ _ _ c.in_default.is).0; left = (eval_off _ _ _ _ c.requires.0 _ _ _ _ _ _ _ h c.do_eval-step.ensures l.invariant.2 l.invariant.1 refl l.invariant.3 l.invariant.4 _ _ _ c.in_default.is).1 }
 
 pub overflow_add-at-in-loop-i : goal.overflow_add-at-in-loop-i
 overflow_add-at-in-loop-i c = let ok = c.requires.0 in let l = c.loop-i in let h = ok.addresses in omega arith
@@ -38,4 +38,4 @@ loop-i-preserved c =
     (search rules, search rules, d.1, d.2, gone_more _ _ _ _ c.requires.0 _ l.invariant.4 d.0, search rules, search rules, search rules)
 
 pub returns : goal.returns
-returns c = let l = c.loop-i in evals_end _ _ _ _ c.requires.0 _ _ _ (search rules) l.invariant.2 l.invariant.3 l.invariant.4
+returns c = let l = c.loop-i in  record { result_value = (evals_end _ _ _ _ c.requires.0 _ _ _ (search rules) l.invariant.2 l.invariant.3 l.invariant.4).0; left = (evals_end _ _ _ _ c.requires.0 _ _ _ (search rules) l.invariant.2 l.invariant.3 l.invariant.4).1 }

@@ -14,4 +14,4 @@ do_evals-requires c = let d = done_is _ _ _ (lent c.do_reads-reads.new.values c.
 pub returns : goal.returns
 returns c =
     let d = done_is _ _ _ (lent c.do_reads-reads.new.values c.do_reads-reads.new.counts c.do_reads-reads.new.nodes) _ c.do_reads-reads.ensures c.in-Done.is in
-    both_runs _ _ _ _ c.requires.0 c.do_evals.result _ (lent c.do_evals.new.values c.do_evals.new.counts c.do_evals.new.nodes) _ d.0 d.1 c.do_evals.ensures
+    record { result_value = (both_runs _ _ _ _ c.requires.0 c.do_evals.result _ (lent c.do_evals.new.values c.do_evals.new.counts c.do_evals.new.nodes) _ d.0 d.1 (c.do_evals.ensures.result_value, c.do_evals.ensures.left)).0; left = (both_runs _ _ _ _ c.requires.0 c.do_evals.result _ (lent c.do_evals.new.values c.do_evals.new.counts c.do_evals.new.nodes) _ d.0 d.1 (c.do_evals.ensures.result_value, c.do_evals.ensures.left)).1 }
