@@ -17,7 +17,7 @@ WORD = re.compile(TOKEN)
 
 
 def plain(name):
-    return name.replace("_", "-")
+    return name.replace("_", "-").lower()
 
 
 def blocks(text):
@@ -118,7 +118,7 @@ def fields(text, f, own):
             text = re.sub(r"\b(\w+)" + re.escape(a[5:]) + r"(?![\w'-])", r"\1" + b[5:], text)
 
     def path(m):
-        rest = [p for p in m[0].split(".")[1:] if p != "before"]
+        rest = ["requires" if p == "pre" else p for p in m[0].split(".")[1:] if p != "before"]
         if not rest:
             return ""
         for n in (9, 8, 7, 6, 5, 4, 3, 2):
@@ -126,7 +126,7 @@ def fields(text, f, own):
             if len(rest) >= n and key in f.arms:
                 return "." + ".".join([*f.arms[key], *rest[n:]])
         old = plain(rest[0])
-        if old in f.steps and not (f.steps[old].endswith("-1") and not old.endswith("-1")):
+        if old in f.steps and (f.steps[old].startswith(("shared_slice_known", "slice_known", "struct_known", "known_told")) or not (f.steps[old].endswith("-1") and not old.endswith("-1"))):
             step = f.steps[old]
             rest[0] = step
             if rest[1:2] == ["ensures"] and step in f.clauses:

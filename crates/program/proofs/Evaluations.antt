@@ -13,7 +13,7 @@ use Rattle.trace.specs.declared.OutputAnswer.{OutputAnswer}
 use Rattle.trace.specs.Output.{header_numbers, output_told}
 use Rattle.trace.specs.Record.{record_wires}
 use Rattle.eval_circuit.specs.Evaluated.{circuit_at, eval_answer, eval_buffers}
-use Rattle.eval_circuit.proofs.Accepted.{Valid, accepted-valid}
+use Rattle.eval_circuit.proofs.Accepted.{Valid, accepted_valid}
 use Rattle.rows.specs.Rows.{record_rows}
 use Rattle.rows.specs.Fill.{num_rows, fill_answer}
 use Rattle.rows.specs.ByWire.{circuit_rows}
@@ -38,7 +38,7 @@ module _ (ctx clk ptr num-vars num-eval : ℕ) (memory : List ℕ) where
   module _ (h : RecordHeader) (b : Lent) (e : eval_answer ctx clk ptr num-vars num-eval memory here ≡ accepted (header_numbers h))
       (q : b ≡ eval_buffers ctx clk ptr num-vars num-eval memory here) where
     valid : Valid ptr num-vars num-eval memory here
-    valid = accepted-valid ctx clk ptr num-vars num-eval memory here (header_numbers h) e
+    valid = accepted_valid ctx clk ptr num-vars num-eval memory here (header_numbers h) e
 
     made : h ≡ eval_header ctx clk num-vars num-eval
     made = answered-header ctx clk ptr num-vars num-eval memory here h e

@@ -13,7 +13,7 @@ use Rattle.field.specs.Lists.{each}
 use Rattle.field.proofs.Cases.{below?}
 use Rattle.field.proofs.Each.{each_more}
 use Rattle.eval_circuit.specs.Evaluated.{circuit_at, eval_answer}
-use Rattle.eval_circuit.proofs.Accepted.{Valid, accepted-valid}
+use Rattle.eval_circuit.proofs.Accepted.{Valid, accepted_valid}
 use Rattle.rows.specs.ByWire.{circuit_rows}
 use Rattle.rows.proofs.WireRows.{circuit_rows_length}
 use Rattle.record.proofs.Ways.{passed}
@@ -61,7 +61,7 @@ module _ (ctx clk ptr num-vars num-eval : ℕ) (memory vs : List ℕ) (e : eval_
   first = (num-vars / 2 + num-eval) ∷ (num-vars + num-eval) ∷ []
 
   valid : Valid ptr num-vars num-eval memory here
-  valid = accepted-valid ctx clk ptr num-vars num-eval memory here vs e
+  valid = accepted_valid ctx clk ptr num-vars num-eval memory here vs e
 
   rows_length : length rows ≡ 16 * (num-vars / 2 + num-eval)
   rows_length = circuit_rows_length ctx clk ptr (circuit_at memory ptr num-vars num-eval)
@@ -104,7 +104,7 @@ text_fitting s = go (program_answer s) refl
     go (refused number place) e = refusal_fitting number
     go (accepted vs) e =
         let a = passed (input_answer s) (eval_answer (ctx_in s) (clk_in s) (ptr_in s) (vars_in s) (evals_in s) (memory_in s) here) vs e in
-        let v = accepted-valid (ctx_in s) (clk_in s) (ptr_in s) (vars_in s) (evals_in s) (memory_in s) here vs a.then in
+        let v = accepted_valid (ctx_in s) (clk_in s) (ptr_in s) (vars_in s) (evals_in s) (memory_in s) here vs a.then in
         rows_fitting (ctx_in s) (clk_in s) (ptr_in s) (vars_in s) (evals_in s) (memory_in s) vs a.then
         (room_enough (vars_in s + evals_in s) (input_good s a.values a.first).room v.few)
 

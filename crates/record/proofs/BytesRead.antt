@@ -10,7 +10,7 @@ use lib.Seq.{length-take-le, take-add}
 use Rattle.field.specs.Told.{accepted}
 use Rattle.field.specs.Field.{p}
 use Rattle.field.specs.Lists.{each}
-use Rattle.numbers.proofs.Below.{below-accepted}
+use Rattle.numbers.proofs.Below.{below_accepted}
 use Rattle.trace.specs.declared.RecordHeader.{RecordHeader}
 use Rattle.trace.specs.Outcome.{Lent}
 use Rattle.trace.specs.Output.{header_numbers}
@@ -157,7 +157,7 @@ module _ (h : RecordHeader) (b : Lent) (r : Recorded h b)
           let d = lengths.declared_is in
           sym
           (declared_is (wires_in s) s (declared_at s) (declared_in s) (read_list_at s)
-          (below-accepted u32 s (declared_at s) (declared_in s) (read_list_at s) lengths.declared_read (omega (arith, d, r.few)))
+          (below_accepted u32 s (declared_at s) (declared_in s) (read_list_at s) lengths.declared_read (omega (arith, d, r.few)))
           (λ z. omega (arith, d, z, r.some_evals))
           (omega (arith, d, r.few))
           (omega (arith, n, d)))

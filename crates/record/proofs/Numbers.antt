@@ -7,7 +7,7 @@ use native.Mathlib.Omega.{arith}
 use lib.ListN.{length}
 use Rattle.field.specs.Told.{Told, accepted, refused, or_else}
 use Rattle.numbers.specs.Answer.{read_below_answer}
-use Rattle.numbers.proofs.Below.{below-accepted, below_is_read}
+use Rattle.numbers.proofs.Below.{below_accepted, below_is_read}
 use Rattle.record.specs.Numbers.{next_at, after, numbers_from, numbers_answer}
 use Rattle.record.proofs.Ways.{values_are, goes_on, stops, passed}
 use Rattle.record.proofs.Places.{next_is, below_of, after_add, length_from}
@@ -67,7 +67,7 @@ module _ (bound : ℕ) (s : List ℕ) where
   pub numbers_pass : (xs : List ℕ) (at end : ℕ) → Stand xs s at end → AllBelow bound xs → numbers_answer bound (length xs) s at ≡ accepted (0 ∷ end ∷ [])
   numbers_pass [] at end h b = none at ∙ ap (λ (k : ℕ). accepted (0 ∷ k ∷ [])) h
   numbers_pass (x ∷ xs) at end h b =
-      one_more (length xs) at x (next_at s at) (below-accepted bound s at x (next_at s at) h.0 b.0)
+      one_more (length xs) at x (next_at s at) (below_accepted bound s at x (next_at s at) h.0 b.0)
       ∙ numbers_pass xs (next_at s at) end h.1 b.1
 
   pub place_after : (n at v next : ℕ) → numbers_answer bound n s at ≡ accepted (v ∷ next ∷ []) → next ≡ after n s at

@@ -55,8 +55,8 @@ module _ (s : List ℕ) (at n : ℕ) (old-values old-counts : List ℕ) where
           ∙ ap (λ (j : ℕ). after (3 * j) s next) (sym m)
           ∙ l.place
 
-      kept-values : sets (sets values (2 * k) (numbers_from 2 s next)) (2 * (k + 1)) (values_from (n - (k + 1)) s place) ≡ sets old-values 0 (values_from n s at)
-      kept-values =
+      kept_values : sets (sets values (2 * k) (numbers_from 2 s next)) (2 * (k + 1)) (values_from (n - (k + 1)) s place) ≡ sets old-values 0 (values_from n s at)
+      kept_values =
           let m : n - k ≡ suc (n - (k + 1)) = omega arith in
           let j : 2 * (k + 1) ≡ 2 * k + length (numbers_from 2 s next) = omega (arith, length_from 2 s next) in
           ap₂ (λ (x y : ℕ). sets (sets values (2 * k) (numbers_from 2 s next)) x (values_from (n - (k + 1)) s y)) j third
@@ -65,8 +65,8 @@ module _ (s : List ℕ) (at n : ℕ) (old-values old-counts : List ℕ) where
           ∙ ap (sets values (2 * k)) (sym (values_more (n - (k + 1)) s next) ∙ ap (λ (x : ℕ). values_from x s next) (sym m))
           ∙ l.stored-values
 
-      kept-counts : sets (set counts k v) (k + 1) (counts_from (n - (k + 1)) s place) ≡ sets old-counts 0 (counts_from n s at)
-      kept-counts =
+      kept_counts : sets (set counts k v) (k + 1) (counts_from (n - (k + 1)) s place) ≡ sets old-counts 0 (counts_from n s at)
+      kept_counts =
           let m : n - k ≡ suc (n - (k + 1)) = omega arith in
           let j : k + 1 ≡ suc k = omega arith in
           ap₂ (λ (x y : ℕ). sets (set counts k v) x (counts_from (n - (k + 1)) s y)) j third
@@ -82,8 +82,8 @@ module _ (s : List ℕ) (at n : ℕ) (old-values old-counts : List ℕ) where
             same_counts = length-set counts k v ∙ l.same_counts;
             stand = subst (λ (j : ℕ). Wires (n - (k + 1)) s j) (sym third) (wires-behind (n - (k + 1)) s next (left h));
             place = kept-place;
-            stored-values = ap (λ (x : List ℕ). sets x (2 * (k + 1)) (values_from (n - (k + 1)) s place)) q ∙ kept-values;
-            stored-counts = kept-counts;
+            stored-values = ap (λ (x : List ℕ). sets x (2 * (k + 1)) (values_from (n - (k + 1)) s place)) q ∙ kept_values;
+            stored-counts = kept_counts;
           }
 
     pub loaded_wires : n ≤ k

@@ -20,8 +20,8 @@ use Rattle.trace.specs.Output.{header_numbers}
 use Rattle.trace.proofs.Stores.{sets_below, sets_above, sets_in}
 use Rattle.eval_circuit.specs.Circuit.{Circuit, multiplicity}
 use Rattle.eval_circuit.specs.Evaluated.{circuit_at, eval_answer, id_at, eval_buffers}
-use Rattle.eval_circuit.proofs.Accepted.{Valid, accepted-valid}
-use Rattle.eval_circuit.proofs.Wires.{wire-count, node-read, node-eval}
+use Rattle.eval_circuit.proofs.Accepted.{Valid, accepted_valid}
+use Rattle.eval_circuit.proofs.Wires.{wire_count, node_read, node_eval}
 use Rattle.rows.specs.Rows.{read_row, eval_row, read_row_at, eval_row_at, record_read_row, record_eval_row, record_rows}
 use Rattle.rows.specs.Fill.{of_rows, fill_answer, filled_rows}
 use Rattle.rows.specs.ByWire.{wire_read_row, wire_eval_row, circuit_rows}
@@ -88,17 +88,17 @@ module _ (ctx clk ptr num-vars num-eval : ℕ) (memory : List ℕ) (b : Lent) (h
   is_made = answered-header ctx clk ptr num-vars num-eval memory b h e
 
   valid : Valid ptr num-vars num-eval memory b
-  valid = accepted-valid ctx clk ptr num-vars num-eval memory b (header_numbers h) e
+  valid = accepted_valid ctx clk ptr num-vars num-eval memory b (header_numbers h) e
 
   count_at : (k i : ℕ) → k ≡ i → i < num-vars + num-eval → get_or after.counts k 0 ≡ multiplicity circuit (id_at circuit i)
   count_at k i q l =
       let z : k ≡ position (num-vars + num-eval) (id_at circuit i) = omega arith in
-      ap (λ (j : ℕ). get_or after.counts j 0) z ∙ wire-count ctx clk ptr num-vars num-eval memory b (header_numbers h) e (id_at circuit i) (omega arith)
+      ap (λ (j : ℕ). get_or after.counts j 0) z ∙ wire_count ctx clk ptr num-vars num-eval memory b (header_numbers h) e (id_at circuit i) (omega arith)
 
   read-row-same : (i : ℕ) → i < num-vars / 2 → record_read_row made after.counts after.nodes i ≡ wire_read_row ctx clk ptr circuit i
   read-row-same i l =
       read-row-of made after.counts after.nodes (7 * i) i _ _ _ _ _ _ _
-      (λ j m. node-read ctx clk ptr num-vars num-eval memory b (header_numbers h) e i j l m)
+      (λ j m. node_read ctx clk ptr num-vars num-eval memory b (header_numbers h) e i j l m)
       (count_at (2 * i) (2 * i) (omega arith) (omega arith))
       (count_at (2 * i + 1) (2 * i + 1) (omega arith) (omega arith))
 
@@ -106,7 +106,7 @@ module _ (ctx clk ptr num-vars num-eval : ℕ) (memory : List ℕ) (b : Lent) (h
   eval-row-same k l =
       let v = valid.even_vars in
       eval-row-of made after.counts after.nodes (7 * (num-vars / 2) + 11 * k) k _ _ _ _ _ _ _ _ _
-      (λ j m. node-eval ctx clk ptr num-vars num-eval memory b (header_numbers h) e k j l m)
+      (λ j m. node_eval ctx clk ptr num-vars num-eval memory b (header_numbers h) e k j l m)
       (count_at (2 * (num-vars / 2) + k) (num-vars + k) (omega arith) (omega arith))
 
   -- the rows of the record that it leaves are those of its circuit, by wire id

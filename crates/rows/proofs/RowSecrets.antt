@@ -16,7 +16,7 @@ use Rattle.trace.specs.Eval.{eval_op}
 use Rattle.trace.specs.Output.{header_numbers}
 use Rattle.eval_circuit.specs.Circuit.{Circuit}
 use Rattle.eval_circuit.specs.Evaluated.{circuit_at, eval_answer, id_at, eval_buffers}
-use Rattle.eval_circuit.proofs.Shape.{Alike, same_word, same-multiplicity}
+use Rattle.eval_circuit.proofs.Shape.{Alike, same_word, same_multiplicity}
 use Rattle.eval_circuit.proofs.Secrets.{Unseen, unseen}
 use Rattle.rows.specs.Rows.{record_rows}
 use Rattle.rows.specs.Fill.{fill_answer, filled_rows}
@@ -49,15 +49,15 @@ module _ (ctx clk ptr num-vars num-eval : ℕ) (first second : List ℕ) (alike 
 
   read-row-same : (i : ℕ) (evals : Bool) → SameBut (hidden evals) (wire_read_row ctx clk ptr one i) (wire_read_row ctx clk ptr two i)
   read-row-same i evals =
-      let m₀ = same-multiplicity ptr num-vars num-eval first second alike (id_at one (2 * i)) in
-      let m₁ = same-multiplicity ptr num-vars num-eval first second alike (id_at one (2 * i + 1)) in
+      let m₀ = same_multiplicity ptr num-vars num-eval first second alike (id_at one (2 * i)) in
+      let m₁ = same_multiplicity ptr num-vars num-eval first second alike (id_at one (2 * i + 1)) in
       row_same evals _ _ _ _ _ _ _ _ _ _ _ _ _ _ _ _ refl refl
       (shown _ _ _ _ _ refl (shown _ _ _ _ _ refl (shown _ _ _ _ _ m₁ (shown _ _ _ _ _ m₀ (same_all _ [])))))
 
   eval-row-same : (k : ℕ) → k < num-eval → SameBut (hidden true) (wire_eval_row ctx clk ptr one k) (wire_eval_row ctx clk ptr two k)
   eval-row-same k h =
       let w = same_word ptr num-vars num-eval first second alike k h in
-      let m₀ = same-multiplicity ptr num-vars num-eval first second alike (id_at one (num-vars + k)) in
+      let m₀ = same_multiplicity ptr num-vars num-eval first second alike (id_at one (num-vars + k)) in
       row_same true _ _ _ _ _ _ _ _ _ _ _ _ _ _ _ _ (ap (λ (x : ℕ). eval_op (opcode x)) w) (ap left_id w)
       (shown _ _ _ _ _ (ap right_id w) (unshown _ _ _ _ _ refl (unshown _ _ _ _ _ refl (shown _ _ _ _ _ m₀ (same_all _ [])))))
 

@@ -6,7 +6,7 @@ use Prim.Native.Nat.{ℕ, ◌+◌, ◌*◌, ◌/◌, ◌<◌}
 use native.Mathlib.Omega.{arith}
 use lib.ListN.{length, get_or, length-append}
 use Rattle.field.specs.Lists.{each}
-use Rattle.field.proofs.Each.{each-length, each_at, each-then, each-rest}
+use Rattle.field.proofs.Each.{each-length, each_at, each_then, each_rest}
 use Rattle.trace.specs.declared.RecordHeader.{RecordHeader}
 use Rattle.trace.specs.Outcome.{Lent}
 use Rattle.eval_circuit.specs.Circuit.{Circuit}
@@ -19,13 +19,13 @@ module _ (f g : ℕ → List ℕ) (f-wide : (k : ℕ) → length (f k) ≡ 16) (
   both-length = omega (arith, length-append (each f n) (each g m), each-length f 16 f-wide n, each-length g 16 g-wide m)
 
   of-first : (i j : ℕ) → i < n → j < 16 → get_or (each f n ++ each g m) (16 * i + j) 0 ≡ get_or (f i) j 0
-  of-first i j h l = each-then f 16 f-wide n i j (each g m) h l
+  of-first i j h l = each_then f 16 f-wide n i j (each g m) h l
 
   of-second : (k j : ℕ) → k < m → j < 16 → get_or (each f n ++ each g m) (16 * (n + k) + j) 0 ≡ get_or (g k) j 0
   of-second k j h l =
       let e : 16 * (n + k) + j ≡ 16 * n + (16 * k + j) = omega arith in
       ap (λ (i : ℕ). get_or (each f n ++ each g m) i 0) e
-      ∙ each-rest f 16 f-wide n (16 * k + j) (each g m)
+      ∙ each_rest f 16 f-wide n (16 * k + j) (each g m)
       ∙ each_at g 16 g-wide m k j h l
 
 module _ (ctx clk ptr : ℕ) (c : Circuit) where

@@ -5,7 +5,7 @@ use Prim.Native.Nat.{ℕ, ◌-◌, ◌^◌}
 use native.Mathlib.Nat.{sub-zero}
 use borrow.Author.Rules.{rules}
 use Rattle.numbers.specs.Answer.{read_told}
-use Rattle.numbers.proofs.Below.{below-accepted, below-refused}
+use Rattle.numbers.proofs.Below.{below_accepted, below_refused}
 use Rattle.record.specs.Numbers.{numbers_answer}
 use Rattle.record.proofs.Ways.{heard}
 use Rattle.record.proofs.Places.{number_is, next_is}
@@ -42,7 +42,7 @@ returns : tie.Need-returns invariant-loop decreases-loop
 returns c =
     let l = c.before.before.before.before.loop in
     let e = heard c.before.before.read.ensures c.enum_told.given.1 in
-    let t = numbers_off _ _ _ _ _ _ _ _ (below-refused _ _ _ _ _ e) l.invariant.0 (search rules) in
+    let t = numbers_off _ _ _ _ _ _ _ _ (below_refused _ _ _ _ _ e) l.invariant.0 (search rules) in
     (ap read_told c.enum_told.given.1 ∙ t, where_refused _ _ _ t)
 
 add-cells : tie.Need-overflow-add-cells invariant-loop decreases-loop
@@ -64,7 +64,7 @@ loop-again : tie.Need-loop-preserved invariant-loop decreases-loop
 loop-again c =
     let l = c.before.before.before.before.before.loop in
     let e = heard c.before.before.before.read.ensures c.before.found.given.1 in (
-      numbers_on _ _ _ _ _ _ _ _ (below-accepted _ _ _ _ _ e (search rules)) l.invariant.0 (search rules),
+      numbers_on _ _ _ _ _ _ _ _ (below_accepted _ _ _ _ _ e (search rules)) l.invariant.0 (search rules),
       loading_next _ _ _ _ _ l.invariant.1 _ _ (number_is _ _ _ _ e) (next_is _ _ _ _ e) (search rules),
     )
 
