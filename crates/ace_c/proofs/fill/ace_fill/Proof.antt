@@ -5,7 +5,7 @@ use borrow.Author.Rules.{rules}
 use Rattle.trace.specs.declared.RecordHeader.{RecordHeader}
 use Rattle.trace.specs.Outcome.{lent}
 use Rattle.rows.specs.Fill.{fill_answer, filled_rows}
-use Rattle.field.proofs.Parts.{told}
+use Rattle.ace_c.proofs.Parts.{told}
 use Rattle.ace_c.proofs.fill.ace_fill.Statement.{statement}
 use Rattle.ace_c.proofs.fill.ace_fill.Tie as tie
 

@@ -5,7 +5,7 @@ use borrow.Author.Rules.{rules}
 use Rattle.trace.specs.declared.CircuitEvaluation.{CircuitEvaluation}
 use Rattle.trace.specs.Outcome.{lent}
 use Rattle.rows.specs.Fill.{fill_state_answer, state_rows}
-use Rattle.field.proofs.Parts.{told}
+use Rattle.ace_c.proofs.Parts.{told}
 use Rattle.ace_c.proofs.fill.ace_fill_state.Statement.{statement}
 use Rattle.ace_c.proofs.fill.ace_fill_state.Tie as tie
 

@@ -5,7 +5,7 @@ use borrow.Author.Rules.{rules}
 use Rattle.runs.specs.declared.Ace.{Ace}
 use Rattle.runs.specs.Calls.{add_answer, list_after}
 use Rattle.ace_c.specs.Lists.{entry_by, threes_of}
-use Rattle.field.proofs.Parts.{told}
+use Rattle.ace_c.proofs.Parts.{told}
 use Rattle.ace_c.proofs.lists.ace_add_circuit_evaluation.Statement.{statement}
 use Rattle.ace_c.proofs.lists.ace_add_circuit_evaluation.Tie as tie
 

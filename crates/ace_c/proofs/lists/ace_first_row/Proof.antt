@@ -4,7 +4,7 @@ use mathlib.Core.Path.{ap, ◌∙◌}
 use borrow.Author.Rules.{rules}
 use Rattle.runs.specs.declared.Ace.{Ace}
 use Rattle.runs.specs.Calls.{first_row_answer}
-use Rattle.field.proofs.Parts.{told_value}
+use Rattle.ace_c.proofs.Parts.{told_value}
 use Rattle.ace_c.proofs.lists.ace_first_row.Statement.{statement}
 use Rattle.ace_c.proofs.lists.ace_first_row.Tie as tie
 

@@ -3,7 +3,7 @@
 use mathlib.Core.Path.{ap, ◌∙◌}
 use borrow.Author.Rules.{rules}
 use Rattle.runs.specs.Calls.{total_answer}
-use Rattle.field.proofs.Parts.{told_value}
+use Rattle.ace_c.proofs.Parts.{told_value}
 use Rattle.ace_c.proofs.lists.ace_trace_len.Statement.{statement}
 use Rattle.ace_c.proofs.lists.ace_trace_len.Tie as tie
 

@@ -1,7 +1,7 @@
 -- `ace_c::records::ace_read_from` meets its contract.
 -- Assumes nothing.
 use borrow.Author.Rules.{rules}
-use Rattle.field.proofs.Parts.{told_values}
+use Rattle.ace_c.proofs.Parts.{told_values}
 use Rattle.ace_c.proofs.records.ace_read_from.Statement.{statement}
 use Rattle.ace_c.proofs.records.ace_read_from.Tie as tie
 

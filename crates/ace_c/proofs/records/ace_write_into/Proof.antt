@@ -5,7 +5,7 @@ use borrow.Author.Rules.{rules}
 use Rattle.trace.specs.declared.RecordHeader.{RecordHeader}
 use Rattle.trace.specs.Outcome.{lent}
 use Rattle.record.specs.Bytes.{write_into_answer, written_into}
-use Rattle.field.proofs.Parts.{told_value}
+use Rattle.ace_c.proofs.Parts.{told_value}
 use Rattle.ace_c.proofs.records.ace_write_into.Statement.{statement}
 use Rattle.ace_c.proofs.records.ace_write_into.Tie as tie
 

@@ -1,7 +1,7 @@
 -- `ace_c::steps::ace_new` meets its contract.
 -- Assumes nothing.
 use borrow.Author.Rules.{rules}
-use Rattle.field.proofs.Parts.{told_both}
+use Rattle.ace_c.proofs.Parts.{told_both}
 use Rattle.ace_c.proofs.steps.ace_new.Statement.{statement}
 use Rattle.ace_c.proofs.steps.ace_new.Tie as tie
 

@@ -5,7 +5,7 @@ use borrow.Author.Rules.{rules}
 use Rattle.trace.specs.declared.CircuitEvaluation.{CircuitEvaluation}
 use Rattle.trace.specs.Outcome.{lent}
 use Rattle.trace.specs.Output.{output_answer}
-use Rattle.field.proofs.Parts.{told_values}
+use Rattle.ace_c.proofs.Parts.{told_values}
 use Rattle.ace_c.proofs.steps.ace_output_value.Statement.{statement}
 use Rattle.ace_c.proofs.steps.ace_output_value.Tie as tie
 

@@ -3,7 +3,7 @@
 use mathlib.Core.Path.{refl, sym, ap}
 use borrow.Author.Rules.{rules}
 use Rattle.trace.specs.Open.{open_told}
-use Rattle.field.proofs.Parts.{told_both}
+use Rattle.ace_c.proofs.Parts.{told_both}
 use Rattle.ace_c.proofs.tell.tell_open.Statement.{statement}
 use Rattle.ace_c.proofs.tell.tell_open.Tie as tie
 

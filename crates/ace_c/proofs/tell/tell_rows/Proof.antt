@@ -3,7 +3,7 @@
 use mathlib.Core.Path.{refl, sym, ap}
 use borrow.Author.Rules.{rules}
 use Rattle.runs.specs.Calls.{rows_told}
-use Rattle.field.proofs.Parts.{told_value}
+use Rattle.ace_c.proofs.Parts.{told_value}
 use Rattle.ace_c.proofs.tell.tell_rows.Statement.{statement}
 use Rattle.ace_c.proofs.tell.tell_rows.Tie as tie
 
