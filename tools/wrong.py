@@ -25,7 +25,7 @@ class Program:
     @property
     def function(self):
         """The function whose proof the place is; none where it is no function's."""
-        found = re.fullmatch(r"fn (?:\w+::)*(\w+)|proofs/(?:\w+/)*(\w+)/Proof\.antt", self.place)
+        found = re.fullmatch(r"fn (?:\w+::)*(\w+)|proofs/(?:\w+/)*(\w+)/(?:Answers|Invariants)\.antt", self.place)
         return found and (found.group(1) or found.group(2))
 
 
