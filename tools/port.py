@@ -35,6 +35,13 @@ APART = {
     "most-wires": "most_wires_lem",
     "most-cells": "most_cells_lem",
     "sStart": "s_start_of",
+    "eval-cells": "eval_cells_lem",
+    "evals-at": "evals_at_lem",
+    "wires-at": "wires_at_lem",
+    "wires-taken": "wires_taken_lem",
+    "total-answer": "total_answer_lem",
+    "read-list-at": "read_list_at_lem",
+    "read-list_at": "read_list_at_lem",
 }
 # The same for names that port.py had turned already, in the files where both stand.
 APART_IN = {
@@ -69,14 +76,14 @@ def declared():
     """Each name that a file of specs/ or of lemmas declares, and whether it is a definition of specs/."""
     names = {}
     for path in texts(".antt"):
-        if path.endswith("/Proof.antt"):
+        if re.search(r"/proofs/.*/\w+\.antt$", path):
             continue
         in_type = False
         for line in open(path, encoding="utf-8"):
             if re.match(r"\S", line):
                 in_type = bool(re.match(r"(pub )?(record|data) ", line))
             m = DECLARED.match(line)
-            if not m or len(m[1]) not in (0, 2) or len(m[1]) == 2 and not in_type:
+            if not m or not (m[1] == "" or "pub " in m[2] or len(m[1]) == 2 and in_type):
                 continue
             names[m[3]] = names.get(m[3], False) or "/specs/" in path and len(m[1]) == 0
     return names
@@ -102,11 +109,12 @@ def names():
         if name[0].islower() and (re.search(r"[a-z0-9][A-Z]", name) or "-" in name):
             table[name] = APART.get(name) or turned(name, definitions)
     words = {n: t for n, t in table.items() if "-" not in n}
+    is_first = "readMade" in words
     for path in texts(".antt", ".rt", ".edit", ".md", ".py"):
         text = open(path, encoding="utf-8").read()
         here = dict(words if path.endswith((".rt", ".py")) else table)
         for start, apart in APART_IN.items():
-            if path.startswith(start):
+            if is_first and path.startswith(start):
                 here.update(apart)
         new = WORD.sub(lambda m: here.get(m[0], m[0]), text)
         if new != text:

@@ -20,9 +20,9 @@ use Rattle.trace.proofs.Tests.{room_of, room_by_nodes}
 use Rattle.eval_circuit.specs.Circuit.{Circuit, word, value}
 use Rattle.eval_circuit.specs.Evaluated.{memory_cells, region_cells, circuit_at, circuit_answer, eval_answer}
 use Rattle.eval_circuit.proofs.Values.{Early}
-use Rattle.eval_circuit.proofs.Gates.{early-gate, gate-early, gates-pass, gates_accepted}
+use Rattle.eval_circuit.proofs.Gates.{early_gate, gate_early, gates_pass, gates_accepted}
 use Rattle.eval_circuit.proofs.RegionTests.{region_of, region_pass}
-use Rattle.eval_circuit.proofs.RegionCells.{memory_most, memory_least, region-by-address, region-by-cell, region-word-below, cells-pass, cells-passed}
+use Rattle.eval_circuit.proofs.RegionCells.{memory_most, memory_least, region_by_address, region_by_cell, region_word_below, cells_pass, cells_passed}
 
 -- the header that is answered: ctx, clk, num_read, num_eval, id_next
 abbrev pub header : ℕ → ℕ → ℕ → ℕ → List ℕ
@@ -67,12 +67,12 @@ module _ (ctx clk ptr num-vars num-eval : ℕ) (memory : List ℕ) (b : Lent) wh
   circuit = circuit_at memory ptr num-vars num-eval
 
   -- what is accepted is valid
-  pub accepted-valid : (vs : List ℕ) → eval_answer ctx clk ptr num-vars num-eval memory b ≡ accepted vs → Valid ptr num-vars num-eval memory b
+  pub accepted_valid : (vs : List ℕ) → eval_answer ctx clk ptr num-vars num-eval memory b ≡ accepted vs → Valid ptr num-vars num-eval memory b
   unfolding eval_answer
-  accepted-valid vs e =
+  accepted_valid vs e =
       let a₅ = region_of ptr num-vars num-eval (memory_cells memory) _ vs e in
       let a₆ = passes (room (num-vars / 2) num-eval (length b.values) (length b.counts) (length b.nodes)) _ 6 0 vs a₅.1 in
-      let a₇ = cells-passed ptr circuit.cells _ vs a₆.1 in
+      let a₇ = cells_passed ptr circuit.cells _ vs a₆.1 in
       let a₈ = gates_accepted circuit _ num-eval 0 vs a₇.1 in
       let a₁₂ = passes (is_zero (value circuit 0)) _ 12 0 vs a₈.1 in
       let g = a₅.0 in
@@ -90,9 +90,9 @@ module _ (ctx clk ptr num-vars num-eval : ℕ) (memory : List ℕ) (b : Lent) wh
         room-values = doubled num-vars _ _ g.even_vars r.for_values;
         room-counts = halved num-vars _ _ g.even_vars r.for_counts;
         room-nodes = r.for_nodes;
-        elements = region-by-address memory ptr num-vars num-eval m.0 a₇.0;
-        decodes = (λ k h. (gate-early circuit k [] (a₈.0 k (omega arith) (omega arith))).1);
-        early = (λ k h. (gate-early circuit k [] (a₈.0 k (omega arith) (omega arith))).0);
+        elements = region_by_address memory ptr num-vars num-eval m.0 a₇.0;
+        decodes = (λ k h. (gate_early circuit k [] (a₈.0 k (omega arith) (omega arith))).1);
+        early = (λ k h. (gate_early circuit k [] (a₈.0 k (omega arith) (omega arith))).0);
         zero_output = zero_of (value circuit 0) a₁₂.0;
       }
 
@@ -105,14 +105,14 @@ module _ (ctx clk ptr num-vars num-eval : ℕ) (memory : List ℕ) (b : Lent) wh
 
   valid-gates : Valid ptr num-vars num-eval memory b → circuit_answer ctx clk circuit ≡ accepted (header ctx clk num-vars num-eval)
   valid-gates h =
-      gates-pass circuit _ num-eval 0
-      (λ j l m. early-gate circuit j (region-word-below memory ptr num-vars num-eval h.elements j (omega arith)) (h.decodes j (omega arith)) (h.early j (omega arith)))
+      gates_pass circuit _ num-eval 0
+      (λ j l m. early_gate circuit j (region_word_below memory ptr num-vars num-eval h.elements j (omega arith)) (h.decodes j (omega arith)) (h.early j (omega arith)))
       ∙ ap (λ (v : Pair). cond (is_zero v) (accepted (header ctx clk num-vars num-eval)) (refused 12 0)) h.zero_output
 
   -- what is valid is accepted, with its header
-  pub valid-accepted : Valid ptr num-vars num-eval memory b → eval_answer ctx clk ptr num-vars num-eval memory b ≡ accepted (header ctx clk num-vars num-eval)
+  pub valid_accepted : Valid ptr num-vars num-eval memory b → eval_answer ctx clk ptr num-vars num-eval memory b ≡ accepted (header ctx clk num-vars num-eval)
   unfolding eval_answer
-  valid-accepted h =
+  valid_accepted h =
       sym (region_pass ptr num-vars num-eval (memory_cells memory) _ (record {
         few = h.few;
         some_vars = h.some_vars;
@@ -122,8 +122,8 @@ module _ (ctx clk ptr num-vars num-eval : ℕ) (memory : List ℕ) (b : Lent) wh
         aligned = h.aligned;
         in_memory = memory_least memory _ h.in_memory h.addressed;
       }))
-      ∙ rw (valid-room h) (cells-pass ptr circuit.cells _ (region-by-cell memory ptr num-vars num-eval h.elements h.in_memory) ∙ valid-gates h)
+      ∙ rw (valid-room h) (cells_pass ptr circuit.cells _ (region_by_cell memory ptr num-vars num-eval h.elements h.in_memory) ∙ valid-gates h)
 
   -- and no other header is answered
-  pub accepted-header : (vs : List ℕ) → eval_answer ctx clk ptr num-vars num-eval memory b ≡ accepted vs → vs ≡ header ctx clk num-vars num-eval
-  accepted-header vs e = same_values (sym e ∙ valid-accepted (accepted-valid vs e))
+  pub accepted_header : (vs : List ℕ) → eval_answer ctx clk ptr num-vars num-eval memory b ≡ accepted vs → vs ≡ header ctx clk num-vars num-eval
+  accepted_header vs e = same_values (sym e ∙ valid_accepted (accepted_valid vs e))

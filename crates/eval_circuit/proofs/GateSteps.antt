@@ -27,19 +27,19 @@ use Rattle.trace.proofs.Choices.{both}
 use Rattle.trace.proofs.Tests.{eval_turn_is}
 use Rattle.trace.proofs.Stores.{same?, names_same, names_other, raised_at}
 use Rattle.trace.proofs.NextId.{next_lacking, next_later}
-use Rattle.trace.proofs.StepTests.{eval-cells, as-stored, stored-value}
+use Rattle.trace.proofs.StepTests.{eval_cells_lem, as_stored, stored-value}
 use Rattle.trace.proofs.Answers.{lent_equal}
-use Rattle.trace.proofs.Ways.{eval-undecoded, eval-operands, left-refused, right-refused, both-taken}
+use Rattle.trace.proofs.Ways.{eval_undecoded, eval_operands, left_refused, right_refused, both_taken}
 use Rattle.eval_circuit.specs.Circuit.{Circuit, num_wires, word, value, named_by, gate_answer}
 use Rattle.eval_circuit.specs.Evaluated.{id_at, value_cells, read_cells, eval_cells}
 use Rattle.field.specs.Lists.{each}
 use Rattle.eval_circuit.specs.Inside.{circuit_of, after, named_cell, stage, Past, Prepared}
 use Rattle.eval_circuit.proofs.Cases.{true_or_false}
-use Rattle.field.proofs.Each.{each_more, each_equal, each-then}
+use Rattle.field.proofs.Each.{each_more, each_equal, each_then}
 use Rattle.eval_circuit.proofs.Fills.{fills, each_fills, each-raised}
-use Rattle.eval_circuit.proofs.RegionCells.{region-at, region-length, region-word}
-use Rattle.eval_circuit.proofs.Values.{Early, value-gate, value-elements}
-use Rattle.eval_circuit.proofs.Gates.{left_made, right_made, made-early, gate-undecoded, gate-left, gate-right, gate-accepted}
+use Rattle.eval_circuit.proofs.RegionCells.{region_at, region_length, region_word}
+use Rattle.eval_circuit.proofs.Values.{Early, value_gate, value-elements}
+use Rattle.eval_circuit.proofs.Gates.{left_made, right_made, made_early, gate_undecoded, gate_left, gate_right, gate_accepted}
 use Rattle.eval_circuit.proofs.Stages.{nodes-length, values_length, counts-length, after-sound, stage-counts, stage-fits}
 
 -- ---- how often a wire is named
@@ -137,13 +137,13 @@ module _ (s : CircuitEvaluation) (memory : List ℕ) (ptr : ℕ) (b : Lent) (ok 
   pub word_below : word c k < p
   word_below =
       let e : ptr + (2 * (2 * s.num_read) + k) ≡ ptr + (4 * s.num_read + k) = omega arith in
-      rw (region-word memory ptr (2 * s.num_read) s.num_eval k hk, e) (ok.elements (4 * s.num_read + k) (omega arith))
+      rw (region_word memory ptr (2 * s.num_read) s.num_eval k hk, e) (ok.elements (4 * s.num_read + k) (omega arith))
 
   cells-below : (j : ℕ) → j < length c.cells → get_or c.cells j 0 < p
   cells-below j h =
       let r = ok.region in
-      let l = region-length memory ptr (2 * s.num_read) s.num_eval (omega arith) in
-      rw (region-at memory ptr (2 * s.num_read) s.num_eval j (omega arith)) (ok.elements j (omega arith))
+      let l = region_length memory ptr (2 * s.num_read) s.num_eval (omega arith) in
+      rw (region_at memory ptr (2 * s.num_read) s.num_eval j (omega arith)) (ok.elements j (omega arith))
 
   here-past : Past c (node_cells reads s.num_eval) here b
   here-past = record {
@@ -158,15 +158,15 @@ module _ (s : CircuitEvaluation) (memory : List ℕ) (ptr : ℕ) (b : Lent) (ok 
         let a = ok.addresses in
         let l : at < p = omega arith in
         let f : 2 ≤ first_over (word c k ∷ at ∷ []) = omega (arith, over_later (word c k) (at ∷ []) word_below, over_later at [] l) in
-        eval-cells _ _ _ _ (eval_turn_is _ (after-sound s memory ptr b ok reads k (omega arith) (omega arith) (inr refl)) refl hk) _ (stage-fits s memory ptr b ok reads k (omega arith) (omega arith))
+        eval_cells_lem _ _ _ _ (eval_turn_is _ (after-sound s memory ptr b ok reads k (omega arith) (omega arith) (inr refl)) refl hk) _ (stage-fits s memory ptr b ok reads k (omega arith) (omega arith))
         (sym (of_elements_lem (word c k ∷ at ∷ []) (accepted []) f))
 
     undecoded : 3 ≤ opcode (word c k) → Stop c s ptr at k b
     undecoded o = record {
       number = 8;
       left = here;
-      stopped = gate-undecoded c k word_below o;
-      ends = sym (eval-undecoded state at (word c k) here tests 8 0 (sym (not_instruction (word c k) word_below o)));
+      stopped = gate_undecoded c k word_below o;
+      ends = sym (eval_undecoded state at (word c k) here tests 8 0 (sym (not_instruction (word c k) word_below o)));
       past = here-past;
     }
 
@@ -175,14 +175,14 @@ module _ (s : CircuitEvaluation) (memory : List ℕ) (ptr : ℕ) (b : Lent) (ok 
       decoded = sym (instruction (word c k) word_below o)
 
       operands-first : operands_step state at left right (opcode (word c k)) here ≡ eval_step state at (word c k) here
-      operands-first = eval-operands state at (word c k) here tests left right (opcode (word c k)) decoded
+      operands-first = eval_operands state at (word c k) here tests left right (opcode (word c k)) decoded
 
       no-left : left_made c k ≡ false → Stop c s ptr at k b
       no-left l = record {
         number = 9;
         left = here;
-        stopped = gate-left c k word_below o l;
-        ends = sym (left-refused state at left right (opcode (word c k)) here (operands.Refused 9 k) here.counts (not_there 9 k (num_wires c) n left here.values here.counts l) refl 9 k refl ∙ operands-first);
+        stopped = gate_left c k word_below o l;
+        ends = sym (left_refused state at left right (opcode (word c k)) here (operands.Refused 9 k) here.counts (not_there 9 k (num_wires c) n left here.values here.counts l) refl 9 k refl ∙ operands-first);
         past = here-past;
       }
 
@@ -192,7 +192,7 @@ module _ (s : CircuitEvaluation) (memory : List ℕ) (ptr : ℕ) (b : Lent) (ok 
         id_is = omega arith
 
         cell_at : (j : ℕ) → j < 2 → get_or here.values (2 * position (num_wires c) id + j) 0 ≡ get_or (value_cells c (position (num_wires c) id)) j 0
-        cell_at j h = each-then (value_cells c) 2 (λ i. refl) n (position (num_wires c) id) j (drop (2 * n) b.values) m h
+        cell_at j h = each_then (value_cells c) 2 (λ i. refl) n (position (num_wires c) id) j (drop (2 * n) b.values) m h
 
         stored-first : get_or here.values (2 * position (num_wires c) id) 0 ≡ (value c id).c0
         stored-first =
@@ -209,7 +209,7 @@ module _ (s : CircuitEvaluation) (memory : List ℕ) (ptr : ℕ) (b : Lent) (ok 
             let l₁ = v.high in
             let s₀ = stored-first in
             let s₁ = stored-second in
-            as-stored number k (num_wires c) n id here.values cs _ w m
+            as_stored number k (num_wires c) n id here.values cs _ w m
             (ap₂ (λ (x y : ℕ). accepted (x ∷ y ∷ [])) (sym stored-first) (sym stored-second)
             ∙ stored-value (position (num_wires c) id) here.values cs (omega arith) (omega arith) h)
 
@@ -217,7 +217,7 @@ module _ (s : CircuitEvaluation) (memory : List ℕ) (ptr : ℕ) (b : Lent) (ok 
         count_at =
             let z : position (num_wires c) id ≡ 1 * position (num_wires c) id + 0 = omega arith in
             ap (λ (x : ℕ). get_or here.counts x 0) z
-            ∙ each-then (named_cell c k) 1 (λ i. refl) n (position (num_wires c) id) 0 (drop n b.counts) m (omega arith)
+            ∙ each_then (named_cell c k) 1 (λ i. refl) n (position (num_wires c) id) 0 (drop n b.counts) m (omega arith)
             ∙ ap (λ (x : ℕ). named_by k c x) id_is
 
         count_small : get_or here.counts (position (num_wires c) id) 0 ≤ 2 * k
@@ -237,8 +237,8 @@ module _ (s : CircuitEvaluation) (memory : List ℕ) (ptr : ℕ) (b : Lent) (ok 
         no-right l r = record {
           number = 10;
           left = lent here.values once here.nodes;
-          stopped = gate-right c k word_below o l r;
-          ends = sym (right-refused state at left right (opcode (word c k)) here (operands.Value (value c left).c0 (value c left).c1) once left_there refl _ _ refl
+          stopped = gate_right c k word_below o l r;
+          ends = sym (right_refused state at left right (opcode (word c k)) here (operands.Value (value c left).c0 (value c left).c1) once left_there refl _ _ refl
               (operands.Refused 10 k) once (not_there 10 k (num_wires c) n right here.values once r) refl 10 k refl
               ∙ operands-first);
           past = record { past_values = here-past.past_values; past_counts = once-past; past_nodes = here-past.past_nodes };
@@ -272,7 +272,7 @@ module _ (s : CircuitEvaluation) (memory : List ℕ) (ptr : ℕ) (b : Lent) (ok 
 
           module _ (early : (j : ℕ) → j ≤ k → Early c j) where
             gate_value_lem : value c (id_at c n) ≡ combine (opcode (word c k)) (value c left) (value c right)
-            gate_value_lem = value-gate c k hk early
+            gate_value_lem = value_gate c k hk early
 
             values-next : sets here.values (2 * n) (cells (combine (opcode (word c k)) (value c left) (value c right)))
                 ≡ each (value_cells c) (wires reads (k + 1)) ++ drop (2 * wires reads (k + 1)) b.values
@@ -321,8 +321,8 @@ module _ (s : CircuitEvaluation) (memory : List ℕ) (ptr : ℕ) (b : Lent) (ok 
                 let f : wires reads k + 1 ≡ wires reads (k + 1) = omega arith in
                 let id = sym (next_later (wires_of s) n 1 ok.few (omega arith) (omega arith) ∙ ap (λ (x : ℕ). next_id (wires_of s) x) f) in
                 record {
-                  passed = gate-accepted c k word_below o l r;
-                  leads = sym (both-taken state at left right (opcode (word c k)) here
+                  passed = gate_accepted c k word_below o l r;
+                  leads = sym (both_taken state at left right (opcode (word c k)) here
                       (operands.Value (value c left).c0 (value c left).c1) once left_there refl _ _ refl
                       (operands.Value (value c right).c0 (value c right).c1) twice right_there refl _ _ refl
                       _ _ id made-next
@@ -336,7 +336,7 @@ module _ (s : CircuitEvaluation) (memory : List ℕ) (ptr : ℕ) (b : Lent) (ok 
         (λ (o : opcode (word c k) < 3). ⊎_elim
         (λ (l : left_made c k ≡ true). ⊎_elim
         (λ (r : right_made c k ≡ true).
-        let g = made-early c k l r in
+        let g = made_early c k l r in
         inl (goes_on o g.left_wire g.left_early g.right_wire g.right_early (with-this g) l r))
         (λ (r : right_made c k ≡ false). let m = both _ _ l in inr (no-right o (ltb-true _ _ m.0) (ltb-true _ _ m.1) l r))
         (true_or_false (right_made c k)))

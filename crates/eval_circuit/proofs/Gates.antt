@@ -27,11 +27,11 @@ abbrev pub right_made : Circuit → ℕ → Bool
 right_made c k = is_made (num_wires c) (c.vars + k) (right_id (word c k))
 
 module _ (c : Circuit) (k : ℕ) where
-  pub early-made : Early c k → (left_made c k ≡ true) × (right_made c k ≡ true)
-  early-made e = (both_hold _ _ (lt-ltb _ _ e.left_wire) (lt-ltb _ _ e.left_early), both_hold _ _ (lt-ltb _ _ e.right_wire) (lt-ltb _ _ e.right_early))
+  pub early_made : Early c k → (left_made c k ≡ true) × (right_made c k ≡ true)
+  early_made e = (both_hold _ _ (lt-ltb _ _ e.left_wire) (lt-ltb _ _ e.left_early), both_hold _ _ (lt-ltb _ _ e.right_wire) (lt-ltb _ _ e.right_early))
 
-  pub made-early : left_made c k ≡ true → right_made c k ≡ true → Early c k
-  made-early l r =
+  pub made_early : left_made c k ≡ true → right_made c k ≡ true → Early c k
+  made_early l r =
       let a = both _ _ l in
       let b = both _ _ r in
       record {
@@ -43,52 +43,52 @@ module _ (c : Circuit) (k : ℕ) where
 
 -- the four answers of a gate whose word is an element
 module _ (c : Circuit) (k : ℕ) (h : word c k < p) where
-  pub gate-undecoded : 3 ≤ opcode (word c k) → gate_answer c k ≡ refused 8 k
+  pub gate_undecoded : 3 ≤ opcode (word c k) → gate_answer c k ≡ refused 8 k
   unfolding gate_answer
-  gate-undecoded o = rw (not_instruction (word c k) h o)
+  gate_undecoded o = rw (not_instruction (word c k) h o)
 
   module _ (o : opcode (word c k) < 3) where
-    pub gate-left : left_made c k ≡ false → gate_answer c k ≡ refused 9 k
+    pub gate_left : left_made c k ≡ false → gate_answer c k ≡ refused 9 k
     unfolding gate_answer
-    gate-left l = rw (instruction (word c k) h o, l)
+    gate_left l = rw (instruction (word c k) h o, l)
 
     module _ (l : left_made c k ≡ true) where
-      pub gate-right : right_made c k ≡ false → gate_answer c k ≡ refused 10 k
+      pub gate_right : right_made c k ≡ false → gate_answer c k ≡ refused 10 k
       unfolding gate_answer
-      gate-right r = rw (instruction (word c k) h o, l, r)
+      gate_right r = rw (instruction (word c k) h o, l, r)
 
-      pub gate-accepted : right_made c k ≡ true → gate_answer c k ≡ accepted []
+      pub gate_accepted : right_made c k ≡ true → gate_answer c k ≡ accepted []
       unfolding gate_answer
-      gate-accepted r = rw (instruction (word c k) h o, l, r)
+      gate_accepted r = rw (instruction (word c k) h o, l, r)
 
-    pub early-gate : Early c k → gate_answer c k ≡ accepted []
-    early-gate e = gate-accepted (early-made c k e).0 (early-made c k e).1
+    pub early_gate : Early c k → gate_answer c k ≡ accepted []
+    early_gate e = gate_accepted (early_made c k e).0 (early_made c k e).1
 
 module _ (c : Circuit) (k : ℕ) where
-  pub gate-over : p ≤ word c k → gate_answer c k ≡ refused 7 k
+  pub gate_over : p ≤ word c k → gate_answer c k ≡ refused 7 k
   unfolding gate_answer
-  gate-over h = rw (not_element (word c k) h)
+  gate_over h = rw (not_element (word c k) h)
 
-  gate-made : (vs : List ℕ) → word c k < p → opcode (word c k) < 3 → gate_answer c k ≡ accepted vs → Early c k × (accepted [] ≡ accepted vs)
+  gate_made : (vs : List ℕ) → word c k < p → opcode (word c k) < 3 → gate_answer c k ≡ accepted vs → Early c k × (accepted [] ≡ accepted vs)
   unfolding gate_answer
-  gate-made vs h o e =
+  gate_made vs h o e =
       let l = passes (left_made c k) _ 9 k vs (rw (instruction (word c k) h o) at e) in
       let r = passes (right_made c k) _ 10 k vs l.1 in
-      (made-early c k l.0 r.0, r.1)
+      (made_early c k l.0 r.0, r.1)
 
   gate-facts : (vs : List ℕ) → gate_answer c k ≡ accepted vs → Early c k × (opcode (word c k) < 3) × (gate_answer c k ≡ accepted [])
   gate-facts vs e =
       ⊎_elim
       (λ h. ⊎_elim
-      (λ o. let m = gate-made vs h o e in (m.0, o, e ∙ sym m.1))
-      (λ o. clash (sym (gate-undecoded c k h o) ∙ e))
+      (λ o. let m = gate_made vs h o e in (m.0, o, e ∙ sym m.1))
+      (λ o. clash (sym (gate_undecoded c k h o) ∙ e))
       (below? (opcode (word c k)) 3))
-      (λ h. clash (sym (gate-over h) ∙ e))
+      (λ h. clash (sym (gate_over h) ∙ e))
       (below? (word c k) p)
 
   -- an accepted gate's word decodes, and its operands are made before it
-  pub gate-early : (vs : List ℕ) → gate_answer c k ≡ accepted vs → Early c k × (opcode (word c k) < 3)
-  gate-early vs e = let f = gate-facts vs e in (f.0, f.1)
+  pub gate_early : (vs : List ℕ) → gate_answer c k ≡ accepted vs → Early c k × (opcode (word c k) < 3)
+  gate_early vs e = let f = gate-facts vs e in (f.0, f.1)
 
 -- n gates from gate k on are all accepted
 abbrev pub Passed : Circuit → ℕ → ℕ → Type 0
@@ -103,17 +103,17 @@ pub record First (c : Circuit) (k n number place : ℕ) : Type 0 where
   pub here : gate_answer c gate ≡ refused number place
 
 module _ (c : Circuit) (t : Told) where
-  pub gates-pass : (n k : ℕ) → Passed c k n → gates_answer n k c t ≡ t
+  pub gates_pass : (n k : ℕ) → Passed c k n → gates_answer n k c t ≡ t
   unfolding gates_answer
-  gates-pass zero k h = refl
-  gates-pass (suc n) k h = rw (h k (omega arith) (omega arith)) (gates-pass n (suc k) (λ j l m. h j (omega arith) (omega arith)))
+  gates_pass zero k h = refl
+  gates_pass (suc n) k h = rw (h k (omega arith) (omega arith)) (gates_pass n (suc k) (λ j l m. h j (omega arith) (omega arith)))
 
-  pub gates-stop : (n k number place : ℕ) → First c k n number place → gates_answer n k c t ≡ refused number place
+  pub gates_stop : (n k number place : ℕ) → First c k n number place → gates_answer n k c t ≡ refused number place
   unfolding gates_answer
-  gates-stop zero k number place f = let l = f.from in let m = f.to in absurd (omega arith)
-  gates-stop (suc n) k number place f =
+  gates_stop zero k number place f = let l = f.from in let m = f.to in absurd (omega arith)
+  gates_stop (suc n) k number place f =
       ⊎_elim
-      (λ l. rw (f.before k (omega arith) l) (gates-stop n (suc k) number place (record {
+      (λ l. rw (f.before k (omega arith) l) (gates_stop n (suc k) number place (record {
         gate = f.gate;
         from = l;
         to = (let m = f.to in omega arith);
@@ -156,8 +156,8 @@ gates_cases c (suc n) k = one_more c k n (gate_answer c k) refl (gates_cases c n
 pub gates_accepted : (c : Circuit) (t : Told) (n k : ℕ) (vs : List ℕ) → gates_answer n k c t ≡ accepted vs → Passed c k n × (t ≡ accepted vs)
 gates_accepted c t n k vs e =
     ⊎_elim
-    (λ h. (h, sym (gates-pass c t n k h) ∙ e))
-    (λ s. clash (sym (gates-stop c t n k s.0 s.1 s.2) ∙ e))
+    (λ h. (h, sym (gates_pass c t n k h) ∙ e))
+    (λ s. clash (sym (gates_stop c t n k s.0 s.1 s.2) ∙ e))
     (gates_cases c n k)
 
 -- a refusal is the first refused gate's, or that of what comes after them all
@@ -165,8 +165,8 @@ pub gates_refused : (c : Circuit) (t : Told) (n k number place : ℕ) → gates_
     → First c k n number place ⊎ (Passed c k n × (t ≡ refused number place))
 gates_refused c t n k number place e =
     ⊎_elim
-    (λ h. inr (h, sym (gates-pass c t n k h) ∙ e))
-    (λ s. inl (same s.0 s.1 (sym (gates-stop c t n k s.0 s.1 s.2) ∙ e) s.2))
+    (λ h. inr (h, sym (gates_pass c t n k h) ∙ e))
+    (λ s. inl (same s.0 s.1 (sym (gates_stop c t n k s.0 s.1 s.2) ∙ e) s.2))
     (gates_cases c n k)
   where
     same : (m l : ℕ) → refused m l ≡ refused number place → First c k n m l → First c k n number place
@@ -183,12 +183,12 @@ gate_refused c k number place h e =
     ⊎_elim
     (λ o. ⊎_elim
     (λ l. ⊎_elim
-    (λ r. clash (sym e ∙ gate-accepted c k h o l r))
-    (λ r. numbered 10 (omega arith) (omega arith) (sym (gate-right c k h o l r) ∙ e))
+    (λ r. clash (sym e ∙ gate_accepted c k h o l r))
+    (λ r. numbered 10 (omega arith) (omega arith) (sym (gate_right c k h o l r) ∙ e))
     (true_or_false (right_made c k)))
-    (λ l. numbered 9 (omega arith) (omega arith) (sym (gate-left c k h o l) ∙ e))
+    (λ l. numbered 9 (omega arith) (omega arith) (sym (gate_left c k h o l) ∙ e))
     (true_or_false (left_made c k)))
-    (λ o. numbered 8 (omega arith) (omega arith) (sym (gate-undecoded c k h o) ∙ e))
+    (λ o. numbered 8 (omega arith) (omega arith) (sym (gate_undecoded c k h o) ∙ e))
     (below? (opcode (word c k)) 3)
   where
     numbered : (n : ℕ) → 8 ≤ n → n ≤ 10 → refused n k ≡ refused number place → Numbered k number place

@@ -17,7 +17,7 @@ use Rattle.trace.specs.Outcome.{Lent}
 use Rattle.trace.specs.Output.{is_zero}
 use Rattle.eval_circuit.specs.Circuit.{Circuit, word, value, gate_answer, gates_answer}
 use Rattle.eval_circuit.specs.Evaluated.{memory_cells, region_cells, circuit_at, of_cells, of_region, eval_answer}
-use Rattle.eval_circuit.proofs.Gates.{gate-over, gate_refused, gates_cases, gates-pass, gates-stop}
+use Rattle.eval_circuit.proofs.Gates.{gate_over, gate_refused, gates_cases, gates_pass, gates_stop}
 use Rattle.eval_circuit.proofs.Accepted.{header}
 
 -- a refusal from 1 to 10
@@ -61,13 +61,13 @@ module _ (f : Told → Told) (s : Passage f) where
 passage_gates : (c : Circuit) (n k : ℕ) → Passage (gates_answer n k c)
 passage_gates c n k =
     ⊎_elim
-    (λ h. inl (λ t. gates-pass c t n k h))
+    (λ h. inl (λ t. gates_pass c t n k h))
     (λ s. inr (let m = numbers s.2.gate s.0 s.1 s.2.here in record {
       number = s.0;
       place = s.1;
       least = m.0;
       most = m.1;
-      always = λ t. gates-stop c t n k s.0 s.1 s.2;
+      always = λ t. gates_stop c t n k s.0 s.1 s.2;
     }))
     (gates_cases c n k)
   where
@@ -75,7 +75,7 @@ passage_gates c n k =
     numbers gate number place e =
         ⊎_elim
         (λ l. let r = gate_refused c gate number place l e in (omega arith, omega arith))
-        (λ l. let r = same_refusal (sym (gate-over c gate l) ∙ e) in (omega arith, omega arith))
+        (λ l. let r = same_refusal (sym (gate_over c gate l) ∙ e) in (omega arith, omega arith))
         (below? (word c gate) p)
 
 -- "then 12"

@@ -33,11 +33,11 @@ module _ (ptr num-vars num-eval cells : ℕ) (t : Told) where
     unfolding of_region
     bad-vars e = rw (le-ltb most_wires (num-vars + num-eval) few, e)
 
-    pub no-vars : num-vars ≡ 0 → refused 2 0 ≡ of_region ptr num-vars num-eval cells t
-    no-vars e = bad-vars (either_holds (eqb num-vars 0) (eqb (num-vars % 2) 1) (inl (eq-eqb num-vars 0 e)))
+    pub no_vars : num-vars ≡ 0 → refused 2 0 ≡ of_region ptr num-vars num-eval cells t
+    no_vars e = bad-vars (either_holds (eqb num-vars 0) (eqb (num-vars % 2) 1) (inl (eq-eqb num-vars 0 e)))
 
-    pub odd-vars : num-vars % 2 ≡ 1 → refused 2 0 ≡ of_region ptr num-vars num-eval cells t
-    odd-vars e = bad-vars (either_holds (eqb num-vars 0) (eqb (num-vars % 2) 1) (inr (eq-eqb (num-vars % 2) 1 e)))
+    pub odd_vars : num-vars % 2 ≡ 1 → refused 2 0 ≡ of_region ptr num-vars num-eval cells t
+    odd_vars e = bad-vars (either_holds (eqb num-vars 0) (eqb (num-vars % 2) 1) (inr (eq-eqb (num-vars % 2) 1 e)))
 
     module _ (some : num-vars ≡ 0 → ⊥) (even : num-vars % 2 ≡ 1 → ⊥) where
       good-vars : (eqb num-vars 0 || eqb (num-vars % 2) 1) ≡ false
@@ -50,8 +50,8 @@ module _ (ptr num-vars num-eval cells : ℕ) (t : Told) where
       pub no_evals : num-eval ≡ 0 → refused 3 0 ≡ of_region ptr num-vars num-eval cells t
       no_evals e = bad-evals (either_holds (eqb num-eval 0) (ltb 0 (num-eval % 4)) (inl (eq-eqb num-eval 0 e)))
 
-      pub odd-evals : 0 < num-eval % 4 → refused 3 0 ≡ of_region ptr num-vars num-eval cells t
-      odd-evals h = bad-evals (either_holds (eqb num-eval 0) (ltb 0 (num-eval % 4)) (inr (lt-ltb 0 (num-eval % 4) h)))
+      pub odd_evals : 0 < num-eval % 4 → refused 3 0 ≡ of_region ptr num-vars num-eval cells t
+      odd_evals h = bad-evals (either_holds (eqb num-eval 0) (ltb 0 (num-eval % 4)) (inr (lt-ltb 0 (num-eval % 4) h)))
 
       module _ (gates : num-eval ≡ 0 → ⊥) (fours : num-eval % 4 ≤ 0) where
         good-evals : (eqb num-eval 0 || ltb 0 (num-eval % 4)) ≡ false

@@ -27,8 +27,8 @@ use Rattle.eval_circuit.specs.Circuit.{Circuit, num_wires, value, gates_answer}
 use Rattle.eval_circuit.specs.Evaluated.{circuit_answer, id_at, value_cells, read_cells, eval_cells}
 use Rattle.field.specs.Lists.{each}
 use Rattle.eval_circuit.specs.Inside.{circuit_of, after, named_cell, stage, Past, Prepared, step_told, Left, Ran}
-use Rattle.field.proofs.Each.{each-then}
-use Rattle.eval_circuit.proofs.Gates.{Passed, First, gates-pass, gates-stop, gates_accepted, gates_refused}
+use Rattle.field.proofs.Each.{each_then}
+use Rattle.eval_circuit.proofs.Gates.{Passed, First, gates_pass, gates_stop, gates_accepted, gates_refused}
 use Rattle.eval_circuit.proofs.Stages.{nodes-length, values_length, counts-length, after-sound, stage-values, stage-counts, stage-nodes, stage-fits}
 use Rattle.eval_circuit.proofs.GateSteps.{past_front}
 
@@ -105,8 +105,8 @@ module _ (s : CircuitEvaluation) (memory : List ℕ) (ptr : ℕ) (b : Lent) (ok 
       let n : 2 * (wires_of s - 1) ≡ 2 * (num_wires c - 1) + 0 = omega arith in
       ap₂ pair
       (ap (λ (x : ℕ). get_or (stage c ptr reads s.num_eval b).values x 0) n
-      ∙ each-then (value_cells c) 2 (λ j. refl) (wires reads s.num_eval) (num_wires c - 1) 0 (drop (2 * wires reads s.num_eval) b.values) l (omega arith))
-      (each-then (value_cells c) 2 (λ j. refl) (wires reads s.num_eval) (num_wires c - 1) 1 (drop (2 * wires reads s.num_eval) b.values) l (omega arith))
+      ∙ each_then (value_cells c) 2 (λ j. refl) (wires reads s.num_eval) (num_wires c - 1) 0 (drop (2 * wires reads s.num_eval) b.values) l (omega arith))
+      (each_then (value_cells c) 2 (λ j. refl) (wires reads s.num_eval) (num_wires c - 1) 1 (drop (2 * wires reads s.num_eval) b.values) l (omega arith))
       ∙ ap (λ (x : ℕ). value c x) z
 
   output-is : output_answer (after s reads s.num_eval) (stage c ptr reads s.num_eval b)
@@ -125,25 +125,25 @@ module _ (s : CircuitEvaluation) (memory : List ℕ) (ptr : ℕ) (b : Lent) (ok 
 
   module _ (q : StepAnswer) (d : Lent) (g : step_told q ≡ gates_answer s.num_eval 0 c (accepted [])) (l : Left q s c ptr d b) where
     -- all steps accepted: the answer is the result's
-    pub run-done : (t : CircuitEvaluation) (r : OutputAnswer) → q ≡ Done t → output_told r ≡ output_answer t d → (output_told r ≡ circuit_answer s.ctx s.clk c) × Ran r s c ptr d b
-    run-done t r e o =
+    pub run_done : (t : CircuitEvaluation) (r : OutputAnswer) → q ≡ Done t → output_told r ≡ output_answer t d → (output_told r ≡ circuit_answer s.ctx s.clk c) × Ran r s c ptr d b
+    run_done t r e o =
         let g' : accepted [] ≡ gates_answer s.num_eval 0 c (accepted []) = rw e at g in
         let l' : Left (Done t) s c ptr d b = rw e at l in
         let a = gates_accepted c (accepted []) s.num_eval 0 [] (sym g') in
         let i : output_told r ≡ output_answer (after s reads s.num_eval) (stage c ptr reads s.num_eval b) = o ∙ ap₂ output_answer l'.0 l'.1 in
-        (i ∙ output-is ∙ sym (gates-pass c _ s.num_eval 0 a.0), ran r l'.1)
+        (i ∙ output-is ∙ sym (gates_pass c _ s.num_eval 0 a.0), ran r l'.1)
       where
         ran : (r : OutputAnswer) → d ≡ stage c ptr reads s.num_eval b → Ran r s c ptr d b
         ran (output.Zero h) e = e
         ran (output.Refused n k) e = subst (λ (x : Lent). Past c (node_cells reads s.num_eval) x b) (sym e) (stage_past c ptr reads s.num_eval _ b (omega arith) (omega arith))
 
     -- a gate refused: so is the evaluation
-    pub run-refused : (t : CircuitEvaluation) (n k : ℕ) → q ≡ Refused t n k → (refused n k ≡ circuit_answer s.ctx s.clk c) × Ran (output.Refused n k) s c ptr d b
-    run-refused t n k e =
+    pub run_refused : (t : CircuitEvaluation) (n k : ℕ) → q ≡ Refused t n k → (refused n k ≡ circuit_answer s.ctx s.clk c) × Ran (output.Refused n k) s c ptr d b
+    run_refused t n k e =
         let g' : refused n k ≡ gates_answer s.num_eval 0 c (accepted []) = rw e at g in
         let l' : Left (Refused t n k) s c ptr d b = rw e at l in (
           ⊎_elim
-              (λ (f : First c 0 s.num_eval n k). sym (gates-stop c _ s.num_eval 0 n k f))
+              (λ (f : First c 0 s.num_eval n k). sym (gates_stop c _ s.num_eval 0 n k f))
               (λ (a : Passed c 0 s.num_eval × (accepted [] ≡ refused n k)). clash (sym a.1))
               (gates_refused c (accepted []) s.num_eval 0 n k (sym g')),
           l',

@@ -19,9 +19,9 @@ use Rattle.eval_circuit.specs.Circuit.{Circuit, value}
 use Rattle.eval_circuit.specs.Evaluated.{memory_cells, circuit_at, of_region, eval_answer, id_at, count_cell, cleared, eval_buffers}
 use Rattle.eval_circuit.proofs.Cases.{true_or_false}
 use Rattle.field.proofs.Each.{each_equal}
-use Rattle.eval_circuit.proofs.Accepted.{header, accepted-header}
-use Rattle.eval_circuit.proofs.Wires.{accepted-filled, node-read, node-eval, kept-values, kept-nodes, length-values, length-nodes}
-use Rattle.eval_circuit.proofs.Shape.{Alike, same_word, same_memory, same-cells-gates, same-multiplicity}
+use Rattle.eval_circuit.proofs.Accepted.{header, accepted_header}
+use Rattle.eval_circuit.proofs.Wires.{accepted_filled, node_read, node_eval, kept_values, kept_nodes, length-values, length-nodes}
+use Rattle.eval_circuit.proofs.Shape.{Alike, same_word, same_memory, same_cells_gates, same_multiplicity}
 use Rattle.eval_circuit.proofs.Passage.{output, tests, tested, passage}
 
 -- the same refusal from 1 to 10 at the same place
@@ -103,7 +103,7 @@ module _ (ctx clk ptr num-vars num-eval : ℕ) (first second : List ℕ) (b : Le
       tested ptr b ctx clk num-vars num-eval second
       ∙ ap₂ (λ (n : ℕ) (t : Told). of_region ptr num-vars num-eval n (with_room (room (num-vars / 2) num-eval (length b.values) (length b.counts) (length b.nodes)) t))
       (sym (same_memory ptr num-vars num-eval first second alike))
-      (sym (same-cells-gates ptr num-vars num-eval first second alike (output ctx clk two)))
+      (sym (same_cells_gates ptr num-vars num-eval first second alike (output ctx clk two)))
 
   through : (c : Circuit) → Through (header ctx clk c.vars c.gates) (output ctx clk c)
   through c =
@@ -133,17 +133,17 @@ module _ (ctx clk ptr num-vars num-eval : ℕ) (first second : List ℕ) (b : Le
       → SameRecord num-vars num-eval vs ws (eval_buffers ctx clk ptr num-vars num-eval first b) (eval_buffers ctx clk ptr num-vars num-eval second b)
   same-record vs ws e f =
       let words = same_word ptr num-vars num-eval first second alike in
-      let of-read = node-read ctx clk ptr num-vars num-eval first b vs e in
-      let to_read = node-read ctx clk ptr num-vars num-eval second b ws f in
-      let of-eval = node-eval ctx clk ptr num-vars num-eval first b vs e in
-      let to_eval = node-eval ctx clk ptr num-vars num-eval second b ws f in
+      let of-read = node_read ctx clk ptr num-vars num-eval first b vs e in
+      let to_read = node_read ctx clk ptr num-vars num-eval second b ws f in
+      let of-eval = node_eval ctx clk ptr num-vars num-eval first b vs e in
+      let to_eval = node_eval ctx clk ptr num-vars num-eval second b ws f in
       record {
-        headers = accepted-header ctx clk ptr num-vars num-eval first b vs e ∙ sym (accepted-header ctx clk ptr num-vars num-eval second b ws f);
+        headers = accepted_header ctx clk ptr num-vars num-eval first b vs e ∙ sym (accepted_header ctx clk ptr num-vars num-eval second b ws f);
         counts_same =
-            ap (λ (x : Lent). x.counts) (accepted-filled ctx clk ptr num-vars num-eval first b vs e)
+            ap (λ (x : Lent). x.counts) (accepted_filled ctx clk ptr num-vars num-eval first b vs e)
             ∙ ap (λ (xs : List ℕ). xs ++ drop (num-vars + num-eval) b.counts)
-            (each_equal (count_cell one) (count_cell two) (num-vars + num-eval) (λ k h. ap (λ (i : ℕ). i ∷ []) (same-multiplicity ptr num-vars num-eval first second alike (id_at one k))))
-            ∙ ap (λ (x : Lent). x.counts) (sym (accepted-filled ctx clk ptr num-vars num-eval second b ws f));
+            (each_equal (count_cell one) (count_cell two) (num-vars + num-eval) (λ k h. ap (λ (i : ℕ). i ∷ []) (same_multiplicity ptr num-vars num-eval first second alike (id_at one k))))
+            ∙ ap (λ (x : Lent). x.counts) (sym (accepted_filled ctx clk ptr num-vars num-eval second b ws f));
         read_ptr = (λ i h. of-read i 0 h (omega arith) ∙ sym (to_read i 0 h (omega arith)));
         read_id₀ = (λ i h. of-read i 1 h (omega arith) ∙ sym (to_read i 1 h (omega arith)));
         read_id₁ = (λ i h. of-read i 4 h (omega arith) ∙ sym (to_read i 4 h (omega arith)));
@@ -152,8 +152,8 @@ module _ (ctx clk ptr num-vars num-eval : ℕ) (first second : List ℕ) (b : Le
         eval_id₀ = (λ k h. of-eval k 2 h (omega arith) ∙ sym (to_eval k 2 h (omega arith)));
         eval_id₁ = (λ k h. of-eval k 5 h (omega arith) ∙ ap left_id (words k h) ∙ sym (to_eval k 5 h (omega arith)));
         eval_id₂ = (λ k h. of-eval k 8 h (omega arith) ∙ ap right_id (words k h) ∙ sym (to_eval k 8 h (omega arith)));
-        past_nodes = (λ i h. kept-nodes ctx clk ptr num-vars num-eval first b vs e i h ∙ sym (kept-nodes ctx clk ptr num-vars num-eval second b ws f i h));
-        past_values = (λ i h. kept-values ctx clk ptr num-vars num-eval first b vs e i h ∙ sym (kept-values ctx clk ptr num-vars num-eval second b ws f i h));
+        past_nodes = (λ i h. kept_nodes ctx clk ptr num-vars num-eval first b vs e i h ∙ sym (kept_nodes ctx clk ptr num-vars num-eval second b ws f i h));
+        past_values = (λ i h. kept_values ctx clk ptr num-vars num-eval first b vs e i h ∙ sym (kept_values ctx clk ptr num-vars num-eval second b ws f i h));
         node_lengths = length-nodes ctx clk ptr num-vars num-eval first b vs e ∙ sym (length-nodes ctx clk ptr num-vars num-eval second b ws f);
         value_lengths = length-values ctx clk ptr num-vars num-eval first b vs e ∙ sym (length-values ctx clk ptr num-vars num-eval second b ws f);
       }

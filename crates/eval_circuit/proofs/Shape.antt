@@ -12,7 +12,7 @@ use Rattle.field.proofs.Cases.{below?}
 use Rattle.field.proofs.Over.{over_here, over_later}
 use Rattle.eval_circuit.specs.Circuit.{Circuit, word, named_by, multiplicity, gate_answer, gates_answer}
 use Rattle.eval_circuit.specs.Evaluated.{cells_counted, memory_cells, region_cells, circuit_at, of_cells}
-use Rattle.eval_circuit.proofs.RegionCells.{region-at, region-word}
+use Rattle.eval_circuit.proofs.RegionCells.{region_at, region_word}
 
 -- two numbers are equal, or both are elements
 abbrev Matched : ℕ → ℕ → Type 0
@@ -76,9 +76,9 @@ module _ (ptr num-vars num-eval : ℕ) (first second : List ℕ) (alike : Alike 
 
   pub same_word : (k : ℕ) → k < num-eval → word one k ≡ word two k
   same_word k h =
-      region-word first ptr num-vars num-eval k h
+      region_word first ptr num-vars num-eval k h
       ∙ alike.same_words (ptr + (2 * num-vars + k)) (omega arith) (omega arith)
-      ∙ sym (region-word second ptr num-vars num-eval k h)
+      ∙ sym (region_word second ptr num-vars num-eval k h)
 
   same_cells : length one.cells ≡ length two.cells
   same_cells =
@@ -90,10 +90,10 @@ module _ (ptr num-vars num-eval : ℕ) (first second : List ℕ) (alike : Alike 
   matched k h =
       ⊎_elim
       (λ l. inr (
-        rw (region-at first ptr num-vars num-eval k h) (alike.first_reads (ptr + k) (omega arith) (omega arith)),
-        rw (region-at second ptr num-vars num-eval k h) (alike.second_reads (ptr + k) (omega arith) (omega arith)),
+        rw (region_at first ptr num-vars num-eval k h) (alike.first_reads (ptr + k) (omega arith) (omega arith)),
+        rw (region_at second ptr num-vars num-eval k h) (alike.second_reads (ptr + k) (omega arith) (omega arith)),
       ))
-      (λ l. inl (region-at first ptr num-vars num-eval k h ∙ alike.same_words (ptr + k) (omega arith) (omega arith) ∙ sym (region-at second ptr num-vars num-eval k h)))
+      (λ l. inl (region_at first ptr num-vars num-eval k h ∙ alike.same_words (ptr + k) (omega arith) (omega arith) ∙ sym (region_at second ptr num-vars num-eval k h)))
       (below? k (2 * num-vars))
 
   same_first : first_over one.cells ≡ first_over two.cells
@@ -107,9 +107,9 @@ module _ (ptr num-vars num-eval : ℕ) (first second : List ℕ) (alike : Alike 
   same_over t = rw (same_first, same_cells)
 
   -- 7 to 10, with anything after them
-  pub same-cells-gates : (t : Told) → of_cells ptr one.cells (gates_answer num-eval 0 one t) ≡ of_cells ptr two.cells (gates_answer num-eval 0 two t)
-  same-cells-gates t =
+  pub same_cells_gates : (t : Told) → of_cells ptr one.cells (gates_answer num-eval 0 one t) ≡ of_cells ptr two.cells (gates_answer num-eval 0 two t)
+  same_cells_gates t =
       same_over _ ∙ ap (of_cells ptr two.cells) (gates-alike one.cells two.cells num-vars num-eval same_word num-eval 0 t (omega arith))
 
-  pub same-multiplicity : (id : ℕ) → multiplicity one id ≡ multiplicity two id
-  same-multiplicity id = named-alike one.cells two.cells num-vars num-eval same_word num-eval id (omega arith)
+  pub same_multiplicity : (id : ℕ) → multiplicity one id ≡ multiplicity two id
+  same_multiplicity id = named-alike one.cells two.cells num-vars num-eval same_word num-eval id (omega arith)

@@ -30,7 +30,7 @@ use Rattle.field.specs.Lists.{each}
 use Rattle.eval_circuit.specs.Inside.{circuit_of, word_at, after, named_cell, stage, Prepared}
 use Rattle.field.proofs.Each.{each_none, each_more, each-length, front_length}
 use Rattle.eval_circuit.proofs.Fills.{fills, each_fills}
-use Rattle.eval_circuit.proofs.RegionCells.{region-at}
+use Rattle.eval_circuit.proofs.RegionCells.{region_at}
 use Rattle.eval_circuit.proofs.Values.{value_read}
 
 -- the node cells of so many steps
@@ -91,8 +91,8 @@ module _ (s : CircuitEvaluation) (memory : List ℕ) (ptr : ℕ) (b : Lent) (ok 
         let ln : node_cells s.num_read s.num_eval ≤ length (stage c ptr i k b).nodes = omega arith in
         sym (room_by_nodes s.num_read s.num_eval _ _ _ lv lc) ∙ le-leb _ _ ln
 
-  pub first-stage : stage c ptr 0 0 b ≡ b
-  first-stage = rw (each_none (value_cells c), each_none (named_cell c 0), each_none (read_cells c ptr), each_none (eval_cells c ptr))
+  pub first_stage : stage c ptr 0 0 b ≡ b
+  first_stage = rw (each_none (value_cells c), each_none (named_cell c 0), each_none (read_cells c ptr), each_none (eval_cells c ptr))
 
   -- the value of a variable's wire is its two cells in memory
   read-value : (k : ℕ) → k < 2 * s.num_read → value c (id_at c k) ≡ pair (get_or memory (ptr + 2 * k) 0) (get_or memory (ptr + (2 * k + 1)) 0)
@@ -100,7 +100,7 @@ module _ (s : CircuitEvaluation) (memory : List ℕ) (ptr : ℕ) (b : Lent) (ok 
       let q : position (num_wires c) (id_at c k) ≡ k = omega arith in
       value_read c (id_at c k) (omega arith)
       ∙ ap (λ (j : ℕ). value_at c.cells j) q
-      ∙ ap₂ pair (region-at memory ptr (2 * s.num_read) s.num_eval (2 * k) (omega arith)) (region-at memory ptr (2 * s.num_read) s.num_eval (2 * k + 1) (omega arith))
+      ∙ ap₂ pair (region_at memory ptr (2 * s.num_read) s.num_eval (2 * k) (omega arith)) (region_at memory ptr (2 * s.num_read) s.num_eval (2 * k + 1) (omega arith))
 
   module _ (i : ℕ) (hi : i < s.num_read) where
     abbrev at : ℕ

@@ -18,8 +18,8 @@ use Rattle.trace.specs.Read.{read_step}
 use Rattle.trace.specs.Eval.{eval_step}
 use Rattle.eval_circuit.specs.Circuit.{Circuit, word, gate_answer, gates_answer}
 use Rattle.eval_circuit.specs.Inside.{circuit_of, word_at, after, stage, Past, Prepared, step_told, Left}
-use Rattle.eval_circuit.proofs.RegionCells.{region-word}
-use Rattle.eval_circuit.proofs.Gates.{First, gate-early, gates-pass, gates-stop}
+use Rattle.eval_circuit.proofs.RegionCells.{region_word}
+use Rattle.eval_circuit.proofs.Gates.{First, gate_early, gates_pass, gates_stop}
 use Rattle.eval_circuit.proofs.Stages.{read_next}
 use Rattle.eval_circuit.proofs.GateSteps.{Next, Stop, eval_next}
 
@@ -77,31 +77,31 @@ module _ (s : CircuitEvaluation) (memory : List ℕ) (ptr : ℕ) (b : Lent) (ok 
     step_is : step_outcome r left ≡ eval_step (after s s.num_read k) at (word c k) (stage c ptr s.num_read k b)
     step_is =
         let e : ptr + 4 * s.num_read + k ≡ ptr + (2 * (2 * s.num_read) + k) = omega arith in
-        let w : v ≡ word c k = ev ∙ ap (λ (x : ℕ). get_or memory x 0) (ea ∙ e) ∙ sym (region-word memory ptr (2 * s.num_read) s.num_eval k h) in
+        let w : v ≡ word c k = ev ∙ ap (λ (x : ℕ). get_or memory x 0) (ea ∙ e) ∙ sym (region_word memory ptr (2 * s.num_read) s.num_eval k h) in
         q ∙ rw (et, w, eh)
 
     cases : Next c s ptr at k b ⊎ Stop c s ptr at k b
-    cases = eval_next s memory ptr b ok k h at (omega arith) (λ j l. (gate-early c j [] (gone j l)).0)
+    cases = eval_next s memory ptr b ok k h at (omega arith) (λ j l. (gate_early c j [] (gone j l)).0)
 
-    pub eval-on : (u : CircuitEvaluation) → r ≡ Done u → (gate_answer c k ≡ accepted []) × (evals_of t u ≡ after s s.num_read (k + 1)) × (left ≡ stage c ptr s.num_read (k + 1) b)
-    eval-on u d =
+    pub eval_on : (u : CircuitEvaluation) → r ≡ Done u → (gate_answer c k ≡ accepted []) × (evals_of t u ≡ after s s.num_read (k + 1)) × (left ≡ stage c ptr s.num_read (k + 1) b)
+    eval_on u d =
         ⊎_elim
         (λ (n : Next c s ptr at k b). let i = done_is r u _ left _ (step_is ∙ n.leads) d in (n.passed, ap₂ evals_of et i.0, i.1))
         (λ (n : Stop c s ptr at k b). clash (sym (ap (λ (x : Outcome). x.told) (rw d at (step_is ∙ n.ends)))))
         cases
 
-    pub eval-off : (u : CircuitEvaluation) (n j : ℕ) → r ≡ Refused u n j → (step_told r ≡ gates_answer s.num_eval 0 c (accepted [])) × Left r s c ptr left b
-    eval-off u n j d =
+    pub eval_off : (u : CircuitEvaluation) (n j : ℕ) → r ≡ Refused u n j → (step_told r ≡ gates_answer s.num_eval 0 c (accepted [])) × Left r s c ptr left b
+    eval_off u n j d =
         ⊎_elim
         (λ (m : Next c s ptr at k b). not_refused r u _ n j left _ (step_is ∙ m.leads) d)
         (λ (m : Stop c s ptr at k b).
         let l = stop_left r s _ c ptr m.number k left m.left b (step_is ∙ m.ends) m.past in
         let f : First c 0 s.num_eval m.number k = record { gate = k; from = omega arith; to = omega arith; before = λ i _ o. gone i o; here = m.stopped } in
-        (l.0 ∙ sym (gates-stop c (accepted []) s.num_eval 0 m.number k f), l.1))
+        (l.0 ∙ sym (gates_stop c (accepted []) s.num_eval 0 m.number k f), l.1))
         cases
 
-  pub gone-more : (k : ℕ) → Gone k → gate_answer c k ≡ accepted [] → Gone (k + 1)
-  gone-more k g e j h =
+  pub gone_more : (k : ℕ) → Gone k → gate_answer c k ≡ accepted [] → Gone (k + 1)
+  gone_more k g e j h =
       ⊎_elim
       (λ (l : j < k). g j l)
       (λ (l : k ≤ j). let q : k ≡ j = omega arith in subst (λ (i : ℕ). gate_answer c i ≡ accepted []) q e)
@@ -110,6 +110,6 @@ module _ (s : CircuitEvaluation) (memory : List ℕ) (ptr : ℕ) (b : Lent) (ok 
   pub evals_end : (k : ℕ) (t : CircuitEvaluation) (d : Lent) → k ≡ s.num_eval → t ≡ after s s.num_read k → d ≡ stage c ptr s.num_read k b → Gone k
       → (accepted [] ≡ gates_answer s.num_eval 0 c (accepted [])) × Left (Done t) s c ptr d b
   evals_end k t d e et ed g = (
-    sym (gates-pass c (accepted []) s.num_eval 0 (λ j _ h. g j (omega arith))),
+    sym (gates_pass c (accepted []) s.num_eval 0 (λ j _ h. g j (omega arith))),
     (et ∙ ap (λ (n : ℕ). after s s.num_read n) e, ed ∙ ap (λ (n : ℕ). stage c ptr s.num_read n b) e),
   )

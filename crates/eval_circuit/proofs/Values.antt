@@ -52,11 +52,11 @@ module _ (c : Circuit) where
   value_read id h = by_read (num_wires c) id (omega arith) h
 
   -- the operands of the first n gates are made before them; then it makes no difference to these gates' wires, nor to the variables', how many gates are gone through
-  pub value-stable : (n : ℕ) → ((j : ℕ) → j < n → Early c j) → (most more id : ℕ) → position (num_wires c) id < c.vars + n
+  pub value_stable : (n : ℕ) → ((j : ℕ) → j < n → Early c j) → (most more id : ℕ) → position (num_wires c) id < c.vars + n
       → position (num_wires c) id < most → position (num_wires c) id < more → value_by most c id ≡ value_by more c id
-  value-stable n early zero more id h l m = absurd (omega arith)
-  value-stable n early (suc most) zero id h l m = absurd (omega arith)
-  value-stable n early (suc most) (suc more) id h l m =
+  value_stable n early zero more id h l m = absurd (omega arith)
+  value_stable n early (suc most) zero id h l m = absurd (omega arith)
+  value_stable n early (suc most) (suc more) id h l m =
       let at = position (num_wires c) id in
       ⊎_elim
       (λ r. by_read (suc most) id (omega arith) r ∙ sym (by_read (suc more) id (omega arith) r))
@@ -66,15 +66,15 @@ module _ (c : Circuit) where
       let right = nearer at _ c.vars n most more g e.right_early h l m in
       by-gate most id g
       ∙ ap₂ (combine (opcode (word c (gate_of c id))))
-      (value-stable n early most more (left_id (word c (gate_of c id))) left.0 left.1 left.2)
-      (value-stable n early most more (right_id (word c (gate_of c id))) right.0 right.1 right.2)
+      (value_stable n early most more (left_id (word c (gate_of c id))) left.0 left.1 left.2)
+      (value_stable n early most more (right_id (word c (gate_of c id))) right.0 right.1 right.2)
       ∙ sym (by-gate more id g))
       (below? (position (num_wires c) id) c.vars)
 
   -- a gate's is its left operand's value minus, times or plus its right's
-  pub value-gate : (k : ℕ) → k < c.gates → ((j : ℕ) → j ≤ k → Early c j)
+  pub value_gate : (k : ℕ) → k < c.gates → ((j : ℕ) → j ≤ k → Early c j)
       → value c (id_at c (c.vars + k)) ≡ combine (opcode (word c k)) (value c (left_id (word c k))) (value c (right_id (word c k)))
-  value-gate k h early =
+  value_gate k h early =
       let before : ((j : ℕ) → j < k → Early c j) = λ j l. early j (omega arith) in
       let g : gate_of c (id_at c (c.vars + k)) ≡ k = omega arith in
       let one_more : num_wires c ≡ suc (num_wires c - 1) = omega arith in
@@ -86,8 +86,8 @@ module _ (c : Circuit) where
       ∙ by-gate (num_wires c - 1) (id_at c (c.vars + k)) made
       ∙ ap (λ (i : ℕ). gate_value c i (value_by (num_wires c - 1) c)) g
       ∙ ap₂ (combine (opcode (word c k)))
-      (value-stable k before (num_wires c - 1) (num_wires c) (left_id (word c k)) e.left_early l.0 l.1)
-      (value-stable k before (num_wires c - 1) (num_wires c) (right_id (word c k)) e.right_early r.0 r.1)
+      (value_stable k before (num_wires c - 1) (num_wires c) (left_id (word c k)) e.left_early l.0 l.1)
+      (value_stable k before (num_wires c - 1) (num_wires c) (right_id (word c k)) e.right_early r.0 r.1)
 
 combine-elements : (op : ℕ) (l r : Pair) → Elements (combine op l r)
 combine-elements zero l r = sub_elements l r

@@ -31,7 +31,7 @@ use Rattle.eval_circuit.specs.Evaluated.{memory_cells, region_cells, circuit_at,
 use Rattle.field.specs.Lists.{each}
 use Rattle.eval_circuit.specs.Inside.{circuit_of, after, stage, Past, Prepared, Ran}
 use Rattle.eval_circuit.proofs.Gates.{First, Passed, gate_refused, gates_refused}
-use Rattle.eval_circuit.proofs.RegionCells.{memory_most, region-length, region-at, cells-pass}
+use Rattle.eval_circuit.proofs.RegionCells.{memory_most, region_length, region_at, cells_pass}
 use Rattle.eval_circuit.proofs.RegionTests.{Region, region_pass}
 
 -- a refusal from 1 to 5 does not ask what comes after
@@ -75,8 +75,8 @@ module _ (ctx clk ptr num-vars num-eval : ℕ) (memory : List ℕ) (b : Lent) wh
   unfolding eval_answer
   region-told n k e = (region_stops ptr num-vars num-eval (memory_cells memory) n k _ e).0
 
-  pub stops-early : (n k : ℕ) → refused n k ≡ of_region ptr num-vars num-eval (memory_cells memory) (accepted []) → (refused n k ≡ answer) × (b ≡ buffers)
-  stops-early n k e = (region-told n k e, kept n k (region_stops ptr num-vars num-eval (memory_cells memory) n k (accepted []) e).1 (region-told n k e))
+  pub stops_early : (n k : ℕ) → refused n k ≡ of_region ptr num-vars num-eval (memory_cells memory) (accepted []) → (refused n k ≡ answer) × (b ≡ buffers)
+  stops_early n k e = (region-told n k e, kept n k (region_stops ptr num-vars num-eval (memory_cells memory) n k (accepted []) e).1 (region-told n k e))
 
   -- past 1 to 5
   module _ (r : Region ptr num-vars num-eval (memory_cells memory)) where
@@ -99,8 +99,8 @@ module _ (ctx clk ptr num-vars num-eval : ℕ) (memory : List ℕ) (b : Lent) wh
         counts_pass most_wires reads num-eval _ (record { few = omega arith; reads = omega arith; evals = r.some_evals })
 
     -- opening refuses only a short buffer
-    pub stops-short : (n k : ℕ) → refused n k ≡ open_answer ctx clk reads num-eval b → (refused 6 0 ≡ answer) × (b ≡ buffers)
-    stops-short n k e = (told, kept 6 0 (omega arith) told)
+    pub stops_short : (n k : ℕ) → refused n k ≡ open_answer ctx clk reads num-eval b → (refused 6 0 ≡ answer) × (b ≡ buffers)
+    stops_short n k e = (told, kept 6 0 (omega arith) told)
       where
         short : fit ≡ false
         short = no-fit fit (e ∙ opens)
@@ -129,12 +129,12 @@ module _ (ctx clk ptr num-vars num-eval : ℕ) (memory : List ℕ) (b : Lent) wh
       past_room : of_cells ptr c.cells (circuit_answer ctx clk c) ≡ answer
       past_room = rw f at past-region
 
-      pub stops-over : (over : ℕ) → over ≡ ptr + first_over c.cells → over < ptr + region_cells num-vars num-eval → (refused 7 over ≡ answer) × (b ≡ buffers)
-      stops-over over e h = (told, kept 7 over (omega arith) told)
+      pub stops_over : (over : ℕ) → over ≡ ptr + first_over c.cells → over < ptr + region_cells num-vars num-eval → (refused 7 over ≡ answer) × (b ≡ buffers)
+      stops_over over e h = (told, kept 7 over (omega arith) told)
         where
           told : refused 7 over ≡ answer
           told =
-              let l = region-length memory ptr num-vars num-eval in_memory in
+              let l = region_length memory ptr num-vars num-eval in_memory in
               cells_over ptr c.cells (circuit_answer ctx clk c) over e (omega arith) ∙ past_room
 
       module _ (over : ℕ) (e : over ≡ ptr + first_over c.cells) (h : ptr + region_cells num-vars num-eval ≤ over) where
@@ -143,8 +143,8 @@ module _ (ctx clk ptr num-vars num-eval : ℕ) (memory : List ℕ) (b : Lent) wh
 
         past-cells : circuit_answer ctx clk c ≡ answer
         past-cells =
-            let l = region-length memory ptr num-vars num-eval in_memory in
-            sym (cells-pass ptr c.cells (circuit_answer ctx clk c) (λ j i. below j (omega arith))) ∙ past_room
+            let l = region_length memory ptr num-vars num-eval in_memory in
+            sym (cells_pass ptr c.cells (circuit_answer ctx clk c) (λ j i. below j (omega arith))) ∙ past_room
 
         module _ (s : CircuitEvaluation) (o : s ≡ opened ctx clk reads num-eval) where
           two-reads : 2 * reads ≡ num-vars
@@ -171,7 +171,7 @@ module _ (ctx clk ptr num-vars num-eval : ℕ) (memory : List ℕ) (b : Lent) wh
                   for_nodes = g.for_nodes;
                   region = omega arith;
                   addresses = omega arith;
-                  elements = λ j l. subst (λ (x : ℕ). x < p) (region-at memory ptr num-vars num-eval j (omega arith)) (below j (omega arith));
+                  elements = λ j l. subst (λ (x : ℕ). x < p) (region_at memory ptr num-vars num-eval j (omega arith)) (below j (omega arith));
                 },
                 refl,
               )
@@ -193,10 +193,10 @@ module _ (ctx clk ptr num-vars num-eval : ℕ) (memory : List ℕ) (b : Lent) wh
               (each (read_cells c ptr) reads ++ each (eval_cells c ptr) num-eval ++ drop (node_cells reads num-eval) b.nodes))
               (ap (λ (n : ℕ). n + num-eval) two-reads)
 
-          pub ends-accepted : (vs : List ℕ) (d : Lent) → accepted vs ≡ circuit_answer s.ctx s.clk (circuit_of s memory ptr)
+          pub ends_accepted : (vs : List ℕ) (d : Lent) → accepted vs ≡ circuit_answer s.ctx s.clk (circuit_of s memory ptr)
               → d ≡ stage (circuit_of s memory ptr) ptr s.num_read s.num_eval b → (accepted vs ≡ answer) × (d ≡ buffers)
           unfolding eval_buffers
-          ends-accepted vs d q e =
+          ends_accepted vs d q e =
               let t = answer-is (accepted vs) q in
               (t, e ∙ last-stage ∙ ap (λ (x : Told). buffers_after x c ptr b) t)
 
@@ -219,11 +219,11 @@ module _ (ctx clk ptr num-vars num-eval : ℕ) (memory : List ℕ) (b : Lent) wh
           unfolding eval_buffers
           cleared-is n k l t = rw (← t, lt-leb n 7 l)
 
-          pub ends-refused : (n k : ℕ) (d : Lent) {vs cs ns : List ℕ} → refused n k ≡ circuit_answer s.ctx s.clk (circuit_of s memory ptr)
+          pub ends_refused : (n k : ℕ) (d : Lent) {vs cs ns : List ℕ} → refused n k ≡ circuit_answer s.ctx s.clk (circuit_of s memory ptr)
               → Past (circuit_of s memory ptr) (node_cells s.num_read s.num_eval) d b
               → vs ≡ zeroed (2 * wires_of s) d.values → cs ≡ zeroed (wires_of s) d.counts → ns ≡ zeroed (node_cells s.num_read s.num_eval) d.nodes
               → (refused n k ≡ answer) × (lent vs cs ns ≡ buffers)
-          ends-refused n k d q past ev ec en = (
+          ends_refused n k d q past ev ec en = (
             t,
             lent_equal
                 (ev ∙ ap (λ (x : List ℕ). replicate (2 * wires_of s) 0 ++ x) past.past_values)
@@ -244,17 +244,17 @@ module _ (ctx clk ptr num-vars num-eval : ℕ) (memory : List ℕ) (b : Lent) wh
 
           -- by what the run of steps answered
           module _ (a : OutputAnswer) (d : Lent) (q : output_told a ≡ circuit_answer s.ctx s.clk (circuit_of s memory ptr)) (ran : Ran a s (circuit_of s memory ptr) ptr d b) where
-            pub ends-zero : (i : RecordHeader) → a ≡ output.Zero i → (output_told (output.Zero i) ≡ answer) × (d ≡ buffers)
-            ends-zero i z =
+            pub ends_zero : (i : RecordHeader) → a ≡ output.Zero i → (output_told (output.Zero i) ≡ answer) × (d ≡ buffers)
+            ends_zero i z =
                 let l : Ran (output.Zero i) s (circuit_of s memory ptr) ptr d b = rw z at ran in
-                ends-accepted _ d (ap output_told (sym z) ∙ q) l
+                ends_accepted _ d (ap output_told (sym z) ∙ q) l
 
-            pub ends-otherwise : (n k : ℕ) {vs cs ns : List ℕ} → a ≡ output.Refused n k
+            pub ends_otherwise : (n k : ℕ) {vs cs ns : List ℕ} → a ≡ output.Refused n k
                 → vs ≡ zeroed (2 * wires_of s) d.values → cs ≡ zeroed (wires_of s) d.counts → ns ≡ zeroed (node_cells s.num_read s.num_eval) d.nodes
                 → (output_told a ≡ answer) × (lent vs cs ns ≡ buffers)
-            ends-otherwise n k z ev ec en =
+            ends_otherwise n k z ev ec en =
                 let l : Ran (output.Refused n k) s (circuit_of s memory ptr) ptr d b = rw z at ran in
-                let t = ends-refused n k d (ap output_told (sym z) ∙ q) l ev ec en in
+                let t = ends_refused n k d (ap output_told (sym z) ∙ q) l ev ec en in
                 (ap output_told z ∙ t.0, t.1)
 
 -- the address that the look at the cells found, with the region's end as the code has it

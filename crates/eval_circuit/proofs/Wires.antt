@@ -14,11 +14,11 @@ use Rattle.trace.specs.Read.{read_node}
 use Rattle.trace.specs.Eval.{position, combine, eval_op, eval_node}
 use Rattle.eval_circuit.specs.Circuit.{Circuit, word, value, multiplicity}
 use Rattle.eval_circuit.specs.Evaluated.{circuit_at, eval_answer, id_at, filled, eval_buffers}
-use Rattle.eval_circuit.proofs.Values.{value_read, value-gate}
-use Rattle.eval_circuit.proofs.RegionCells.{region-at, region-word}
-use Rattle.eval_circuit.proofs.Accepted.{Valid, accepted-valid}
+use Rattle.eval_circuit.proofs.Values.{value_read, value_gate}
+use Rattle.eval_circuit.proofs.RegionCells.{region_at, region_word}
+use Rattle.eval_circuit.proofs.Accepted.{Valid, accepted_valid}
 use Rattle.eval_circuit.proofs.Totals.{total, total_same, total_back, multiplicity-total}
-use Rattle.eval_circuit.proofs.Filled.{filled-value, filled-count, filled-read, filled-eval, values_kept, counts-kept, nodes_kept, length-values-filled, length-counts-filled, length-nodes-filled}
+use Rattle.eval_circuit.proofs.Filled.{filled-value, filled_count, filled-read, filled_eval, values_kept, counts_kept, nodes_kept, length-values-filled, length-counts-filled, length-nodes-filled}
 
 module _ (ctx clk ptr num-vars num-eval : ℕ) (memory : List ℕ) (b : Lent) where
   abbrev circuit : Circuit
@@ -32,88 +32,88 @@ module _ (ctx clk ptr num-vars num-eval : ℕ) (memory : List ℕ) (b : Lent) wh
 
   module _ (vs : List ℕ) (e : eval_answer ctx clk ptr num-vars num-eval memory b ≡ accepted vs) where
     valid : Valid ptr num-vars num-eval memory b
-    valid = accepted-valid ctx clk ptr num-vars num-eval memory b vs e
+    valid = accepted_valid ctx clk ptr num-vars num-eval memory b vs e
 
-    pub accepted-filled : after ≡ filled circuit ptr b
+    pub accepted_filled : after ≡ filled circuit ptr b
     unfolding eval_buffers
-    accepted-filled = rw e
+    accepted_filled = rw e
 
     -- a READ wire's value is its pair of cells in memory
-    pub wire-read : (id : ℕ) → position num-wires id < num-vars
+    pub wire_read : (id : ℕ) → position num-wires id < num-vars
         → value circuit id ≡ pair (get_or memory (ptr + 2 * position num-wires id) 0) (get_or memory (ptr + (2 * position num-wires id + 1)) 0)
-    wire-read id h =
+    wire_read id h =
         value_read circuit id h
         ∙ ap₂ pair
-        (region-at memory ptr num-vars num-eval (2 * position num-wires id) (omega arith))
-        (region-at memory ptr num-vars num-eval (2 * position num-wires id + 1) (omega arith))
+        (region_at memory ptr num-vars num-eval (2 * position num-wires id) (omega arith))
+        (region_at memory ptr num-vars num-eval (2 * position num-wires id + 1) (omega arith))
 
     -- a gate's wire has what the operation in its word makes of the values of the two ids in it; its word lies behind the variables' cells, as many places as its position lies behind theirs
-    pub wire-gate : (id w : ℕ) → id < num-wires → num-vars ≤ position num-wires id
+    pub wire_gate : (id w : ℕ) → id < num-wires → num-vars ≤ position num-wires id
         → w ≡ get_or memory (ptr + (2 * num-vars + (position num-wires id - num-vars))) 0
         → value circuit id ≡ combine (opcode w) (value circuit (left_id w)) (value circuit (right_id w))
-    wire-gate id w l h q =
+    wire_gate id w l h q =
         let k = position num-wires id - num-vars in
         let i : id_at circuit (num-vars + k) ≡ id = omega arith in
-        let u : word circuit k ≡ w = region-word memory ptr num-vars num-eval k (omega arith) ∙ sym q in
+        let u : word circuit k ≡ w = region_word memory ptr num-vars num-eval k (omega arith) ∙ sym q in
         ap (value circuit) (sym i)
-        ∙ value-gate circuit k (omega arith) (λ j m. valid.early j (omega arith))
+        ∙ value_gate circuit k (omega arith) (λ j m. valid.early j (omega arith))
         ∙ ap (λ (x : ℕ). combine (opcode x) (value circuit (left_id x)) (value circuit (right_id x))) u
 
     -- its value stands in the two value cells of its position
-    pub wire-stored : (id : ℕ) → id < num-wires → value_at after.values (position num-wires id) ≡ value circuit id
-    wire-stored id h =
+    pub wire_stored : (id : ℕ) → id < num-wires → value_at after.values (position num-wires id) ≡ value circuit id
+    wire_stored id h =
         let i : id_at circuit (position num-wires id) ≡ id = omega arith in
-        ap (λ (x : Lent). value_at x.values (position num-wires id)) accepted-filled
+        ap (λ (x : Lent). value_at x.values (position num-wires id)) accepted_filled
         ∙ filled-value circuit ptr b (position num-wires id) (omega arith)
         ∙ ap (value circuit) i
 
     -- its count is the number of operands that name it
-    pub wire-count : (id : ℕ) → id < num-wires → get_or after.counts (position num-wires id) 0 ≡ multiplicity circuit id
-    wire-count id h =
+    pub wire_count : (id : ℕ) → id < num-wires → get_or after.counts (position num-wires id) 0 ≡ multiplicity circuit id
+    wire_count id h =
         let i : id_at circuit (position num-wires id) ≡ id = omega arith in
-        ap (λ (x : Lent). get_or x.counts (position num-wires id) 0) accepted-filled
-        ∙ filled-count circuit ptr b (position num-wires id) (omega arith)
+        ap (λ (x : Lent). get_or x.counts (position num-wires id) 0) accepted_filled
+        ∙ filled_count circuit ptr b (position num-wires id) (omega arith)
         ∙ ap (multiplicity circuit) i
 
     -- multiplicities, and so the counts, total 2 · num_eval
-    pub multiplicities-total : total (multiplicity circuit) num-wires ≡ 2 * num-eval
-    multiplicities-total = multiplicity-total circuit valid.early
+    pub multiplicities_total : total (multiplicity circuit) num-wires ≡ 2 * num-eval
+    multiplicities_total = multiplicity-total circuit valid.early
 
     pub counts-total : total (λ k. get_or after.counts k 0) num-wires ≡ 2 * num-eval
     counts-total =
-        total_same _ _ num-wires (λ k h. ap (λ (x : Lent). get_or x.counts k 0) accepted-filled ∙ filled-count circuit ptr b k h)
+        total_same _ _ num-wires (λ k h. ap (λ (x : Lent). get_or x.counts k 0) accepted_filled ∙ filled_count circuit ptr b k h)
         ∙ total_back (multiplicity circuit) num-wires
-        ∙ multiplicities-total
+        ∙ multiplicities_total
 
     -- READ node i, seven cells: the wires of variables 2i and 2i + 1
-    pub node-read : (i j : ℕ) → i < num-vars / 2 → j < 7
+    pub node_read : (i j : ℕ) → i < num-vars / 2 → j < 7
         → get_or after.nodes (7 * i + j) 0
         ≡ get_or (read_node (ptr + 4 * i) (id_at circuit (2 * i)) (value circuit (id_at circuit (2 * i))) (id_at circuit (2 * i + 1)) (value circuit (id_at circuit (2 * i + 1)))) j 0
-    node-read i j h l = ap (λ (x : Lent). get_or x.nodes (7 * i + j) 0) accepted-filled ∙ filled-read circuit ptr b i j h l
+    node_read i j h l = ap (λ (x : Lent). get_or x.nodes (7 * i + j) 0) accepted_filled ∙ filled-read circuit ptr b i j h l
 
     -- EVAL node k, eleven cells behind those of the READ nodes: the gate's wire and its operands
-    pub node-eval : (k j : ℕ) → k < num-eval → j < 11
+    pub node_eval : (k j : ℕ) → k < num-eval → j < 11
         → get_or after.nodes (7 * (num-vars / 2) + 11 * k + j) 0
         ≡ get_or (eval_node (ptr + (2 * num-vars + k)) (eval_op (opcode (word circuit k))) (id_at circuit (num-vars + k)) (value circuit (id_at circuit (num-vars + k)))
         (left_id (word circuit k)) (value circuit (left_id (word circuit k))) (right_id (word circuit k)) (value circuit (right_id (word circuit k)))) j 0
-    node-eval k j h l = ap (λ (x : Lent). get_or x.nodes (7 * (num-vars / 2) + 11 * k + j) 0) accepted-filled ∙ filled-eval circuit ptr b k j h l
+    node_eval k j h l = ap (λ (x : Lent). get_or x.nodes (7 * (num-vars / 2) + 11 * k + j) 0) accepted_filled ∙ filled_eval circuit ptr b k j h l
 
     -- "cells past those used never change"
-    pub kept-values : (i : ℕ) → 2 * num-wires ≤ i → get_or after.values i 0 ≡ get_or b.values i 0
-    kept-values i h = ap (λ (x : Lent). get_or x.values i 0) accepted-filled ∙ values_kept circuit ptr b i h
+    pub kept_values : (i : ℕ) → 2 * num-wires ≤ i → get_or after.values i 0 ≡ get_or b.values i 0
+    kept_values i h = ap (λ (x : Lent). get_or x.values i 0) accepted_filled ∙ values_kept circuit ptr b i h
 
-    pub kept-counts : (i : ℕ) → num-wires ≤ i → get_or after.counts i 0 ≡ get_or b.counts i 0
-    kept-counts i h = ap (λ (x : Lent). get_or x.counts i 0) accepted-filled ∙ counts-kept circuit ptr b i h
+    pub kept_counts : (i : ℕ) → num-wires ≤ i → get_or after.counts i 0 ≡ get_or b.counts i 0
+    kept_counts i h = ap (λ (x : Lent). get_or x.counts i 0) accepted_filled ∙ counts_kept circuit ptr b i h
 
-    pub kept-nodes : (i : ℕ) → node_cells (num-vars / 2) num-eval ≤ i → get_or after.nodes i 0 ≡ get_or b.nodes i 0
-    kept-nodes i h = ap (λ (x : Lent). get_or x.nodes i 0) accepted-filled ∙ nodes_kept circuit ptr b i h
+    pub kept_nodes : (i : ℕ) → node_cells (num-vars / 2) num-eval ≤ i → get_or after.nodes i 0 ≡ get_or b.nodes i 0
+    kept_nodes i h = ap (λ (x : Lent). get_or x.nodes i 0) accepted_filled ∙ nodes_kept circuit ptr b i h
 
     -- nor do the lengths
     pub length-values : length after.values ≡ length b.values
-    length-values = ap (λ (x : Lent). length x.values) accepted-filled ∙ length-values-filled circuit ptr b valid.room-values
+    length-values = ap (λ (x : Lent). length x.values) accepted_filled ∙ length-values-filled circuit ptr b valid.room-values
 
     pub length-counts : length after.counts ≡ length b.counts
-    length-counts = ap (λ (x : Lent). length x.counts) accepted-filled ∙ length-counts-filled circuit ptr b valid.room-counts
+    length-counts = ap (λ (x : Lent). length x.counts) accepted_filled ∙ length-counts-filled circuit ptr b valid.room-counts
 
     pub length-nodes : length after.nodes ≡ length b.nodes
-    length-nodes = ap (λ (x : Lent). length x.nodes) accepted-filled ∙ length-nodes-filled circuit ptr b valid.room-nodes
+    length-nodes = ap (λ (x : Lent). length x.nodes) accepted_filled ∙ length-nodes-filled circuit ptr b valid.room-nodes

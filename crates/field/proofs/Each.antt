@@ -46,11 +46,11 @@ module _ (f : ℕ → List ℕ) (width : ℕ) (wide : (k : ℕ) → length (f k)
       (below? k n)
 
   -- with a rest after them, and the cells of that
-  pub each-then : (n k j : ℕ) (rest : List ℕ) → k < n → j < width → get_or (each f n ++ rest) (width * k + j) 0 ≡ get_or (f k) j 0
-  each-then n k j rest h l = get_or-append (each f n) rest 0 (width * k + j) (inside n k j h l) ∙ each_at n k j h l
+  pub each_then : (n k j : ℕ) (rest : List ℕ) → k < n → j < width → get_or (each f n ++ rest) (width * k + j) 0 ≡ get_or (f k) j 0
+  each_then n k j rest h l = get_or-append (each f n) rest 0 (width * k + j) (inside n k j h l) ∙ each_at n k j h l
 
-  pub each-rest : (n i : ℕ) (rest : List ℕ) → get_or (each f n ++ rest) (width * n + i) 0 ≡ get_or rest i 0
-  each-rest n i rest = rw (← each-length n) (get_or-append-add (each f n) rest i 0)
+  pub each_rest : (n i : ℕ) (rest : List ℕ) → get_or (each f n ++ rest) (width * n + i) 0 ≡ get_or rest i 0
+  each_rest n i rest = rw (← each-length n) (get_or-append-add (each f n) rest i 0)
 
 -- n cells put in the place of a list's first n: the cells after them stay, and so does the length
 module _ (front xs : List ℕ) (n : ℕ) (e : length front ≡ n) where

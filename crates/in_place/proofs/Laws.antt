@@ -57,11 +57,11 @@ module _ (ctx clk num-read num-eval : ℕ) (b : Lent) (s : CircuitEvaluation) wh
       by-room true q = q
       by-room false q = clash q
 
-  pub opens-in-place : (t : CircuitEvaluation) → accepted (numbers_of t) ≡ open_answer ctx clk num-read num-eval b → outcome (accepted []) t b ≡ open_step s ctx clk num-read num-eval b
-  opens-in-place t e = ap (λ (u : CircuitEvaluation). outcome (accepted []) u b) same ∙ ap goes e
+  pub opens_in_place : (t : CircuitEvaluation) → accepted (numbers_of t) ≡ open_answer ctx clk num-read num-eval b → outcome (accepted []) t b ≡ open_step s ctx clk num-read num-eval b
+  opens_in_place t e = ap (λ (u : CircuitEvaluation). outcome (accepted []) u b) same ∙ ap goes e
     where
       same : t ≡ new
       same = ap (λ (u : Told). state_of u s) (sym (opened-numbers (numbers_of t) (sym e)))
 
-  pub stays-in-place : (n k : ℕ) → refused n k ≡ open_answer ctx clk num-read num-eval b → outcome (refused n k) s b ≡ open_step s ctx clk num-read num-eval b
-  stays-in-place n k e = ap goes e
+  pub stays_in_place : (n k : ℕ) → refused n k ≡ open_answer ctx clk num-read num-eval b → outcome (refused n k) s b ≡ open_step s ctx clk num-read num-eval b
+  stays_in_place n k e = ap goes e

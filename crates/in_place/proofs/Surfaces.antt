@@ -19,7 +19,7 @@ use Rattle.trace.specs.Eval.{eval_step}
 use Rattle.trace.specs.Record.{tested_told}
 use Rattle.trace.proofs.Answers.{step_determined, output_determined, tested_determined}
 use Rattle.in_place.specs.InPlace.{open_step}
-use Rattle.in_place.proofs.Laws.{opens-in-place, stays-in-place}
+use Rattle.in_place.proofs.Laws.{opens_in_place, stays_in_place}
 
 -- "any two outcomes it allows are the same one", of the calls in place that change the state
 pub in_place_determined : (r r' : Tested) (s s' : CircuitEvaluation) (b b' : Lent) → outcome (tested_told r) s b ≡ outcome (tested_told r') s' b' → (r ≡ r') × (s ≡ s') × (b ≡ b')
@@ -64,8 +64,8 @@ pub opens_alike : (t : CircuitEvaluation) (ctx clk num-read num-eval : ℕ) (b :
 opens_alike t ctx clk num-read num-eval b a r s by_value in_place = (both.0, both.1)
   where
     left : (a' : OpenAnswer) → open_told a' ≡ open_answer ctx clk num-read num-eval b → outcome (tested_told (opened_told a')) (opened_state a' t) b ≡ open_step t ctx clk num-read num-eval b
-    left (opening.Opened u) e = opens-in-place ctx clk num-read num-eval b t u e
-    left (opening.Refused n k) e = stays-in-place ctx clk num-read num-eval b t n k e
+    left (opening.Opened u) e = opens_in_place ctx clk num-read num-eval b t u e
+    left (opening.Refused n k) e = stays_in_place ctx clk num-read num-eval b t n k e
 
     both : (r ≡ opened_told a) × (s ≡ opened_state a t) × (b ≡ b)
     both = in_place_determined r (opened_told a) s (opened_state a t) b b (in_place ∙ sym (left a by_value))

@@ -16,7 +16,7 @@ ghost use Rattle.in_place.specs.Inside.{parts_of};
 use trace::{CircuitEvaluation, OpenAnswer, OutputAnswer, StepAnswer, Tested};
 
 // The state that a call by value gives back, and what it tells.
-#[derive(Drop)]
+#[derive(Clone, Copy)]
 pub struct Stepped {
     pub state: CircuitEvaluation,
     pub told: Tested,

@@ -15,7 +15,7 @@ pub const NOT_INSTRUCTION: u32 = 8;
 
 const IDS: u64 = 1 << ID_BITS;
 
-#[derive(Drop)]
+#[derive(Clone, Copy)]
 pub enum Op {
     Sub,
     Mul,
@@ -23,7 +23,7 @@ pub enum Op {
 }
 
 // The left id, the right id and the operation, or the refusal's number and place.
-#[derive(Drop)]
+#[derive(Clone, Copy)]
 pub enum DecodeAnswer {
     Instruction(u32, u32, Op),
     Refused(u32, u64),

@@ -12,17 +12,17 @@ use Rattle.field.proofs.Tellings.{clash}
 use Rattle.numbers.specs.Answer.{within, read_answer, read_below_answer}
 
 module _ (bound : ℕ) (s : List ℕ) (at : ℕ) where
-  pub below-accepted : (v next : ℕ) → read_answer s at ≡ accepted (v ∷ next ∷ []) → v < bound → read_below_answer bound s at ≡ accepted (v ∷ next ∷ [])
+  pub below_accepted : (v next : ℕ) → read_answer s at ≡ accepted (v ∷ next ∷ []) → v < bound → read_below_answer bound s at ≡ accepted (v ∷ next ∷ [])
   unfolding read_below_answer
-  below-accepted v next e h = ap (within bound at) e ∙ rw (lt-ltb v bound h)
+  below_accepted v next e h = ap (within bound at) e ∙ rw (lt-ltb v bound h)
 
-  pub below-over : (v next : ℕ) → read_answer s at ≡ accepted (v ∷ next ∷ []) → bound ≤ v → read_below_answer bound s at ≡ refused 17 at
+  pub below_over : (v next : ℕ) → read_answer s at ≡ accepted (v ∷ next ∷ []) → bound ≤ v → read_below_answer bound s at ≡ refused 17 at
   unfolding read_below_answer
-  below-over v next e h = ap (within bound at) e ∙ rw (le-ltb v bound h)
+  below_over v next e h = ap (within bound at) e ∙ rw (le-ltb v bound h)
 
-  pub below-refused : (number place : ℕ) → read_answer s at ≡ refused number place → read_below_answer bound s at ≡ refused number place
+  pub below_refused : (number place : ℕ) → read_answer s at ≡ refused number place → read_below_answer bound s at ≡ refused number place
   unfolding read_below_answer
-  below-refused number place e = ap (within bound at) e
+  below_refused number place e = ap (within bound at) e
 
 -- what is read below the bound is read, and is below it
 pub record Below (bound : ℕ) (s : List ℕ) (at v next : ℕ) : Type 0 where

@@ -75,8 +75,8 @@ module _ {s : List ℕ} {at value scale i : ℕ} (r : Reading s at value scale i
   head h g e = ap (join at value scale i) (sym e ∙ ap (find_from r.read) (sym (drop-cons s i 0 h))) ∙ r.rest
 
   -- the next byte is in no good form
-  pub read-ill : (number place : ℕ) → number ≡ 16 → place ≡ at → i < length s → ill_formed (i - at) (get_or s i 0) ≡ true → refused number place ≡ read_answer s at
-  read-ill number place n p h t =
+  pub read_ill : (number place : ℕ) → number ≡ 16 → place ≡ at → i < length s → ill_formed (i - at) (get_or s i 0) ≡ true → refused number place ≡ read_answer s at
+  read_ill number place n p h t =
       ap₂ refused n p ∙ head h not_shortest (find_ill r.read (get_or s i 0) (drop (suc i) s) (counted (get_or s i 0) true t))
 
 -- the next byte is in good form
@@ -108,19 +108,19 @@ module _ {s : List ℕ} {at value scale i : ℕ} (p : Passed s at value scale i)
       (λ l. omega (arith, tenth r l, r.low, mul-le-mul_right {m = b} {n = 1} scale (well.tenth (omega (arith, r.most)))))
       (below? n 9)
 
-  pub read-last : (v next : ℕ) → v ≡ value + b * scale → next ≡ i + 1 → b < 128 → accepted (v ∷ next ∷ []) ≡ read_answer s at
-  read-last v next e f l =
+  pub read_last : (v next : ℕ) → v ≡ value + b * scale → next ≡ i + 1 → b < 128 → accepted (v ∷ next ∷ []) ≡ read_answer s at
+  read_last v next e f l =
       ap₂ (λ (x y : ℕ). accepted (x ∷ y ∷ [])) e f ∙ head p.reading p.inside (found b 1) (find_last n b (drop (suc i) s) good-next l)
 
   -- it is not the last
   not-tenth : 128 ≤ b → n < 9
   not-tenth h = ⊎_elim (λ l. l) (λ l. absurd (omega (arith, well.tenth (omega (arith, p.reading.most))))) (below? n 9)
 
-  pub unit-fits : 128 ≤ b → scale * 128 ≤ 2 ^ 63
-  unit-fits h = omega (arith, units p.reading (not-tenth h))
+  pub unit_fits : 128 ≤ b → scale * 128 ≤ 2 ^ 63
+  unit_fits h = omega (arith, units p.reading (not-tenth h))
 
-  pub more-fits : 128 ≤ b → value + (b - 128) * scale < scale * 128
-  more-fits l = omega (arith, p.byte, p.reading.low, mul-le-mul_right {m = b - 128} {n = 127} scale (omega (arith, p.byte)))
+  pub more_fits : 128 ≤ b → value + (b - 128) * scale < scale * 128
+  more_fits l = omega (arith, p.byte, p.reading.low, mul-le-mul_right {m = b - 128} {n = 127} scale (omega (arith, p.byte)))
 
   pub read_next : (v unit : ℕ) → v ≡ value + (b - 128) * scale → unit ≡ scale * 128 → 128 ≤ b → Reading s at v unit (i + 1)
   read_next v unit e f l =
@@ -131,7 +131,7 @@ module _ {s : List ℕ} {at value scale i : ℕ} (p : Passed s at value scale i)
         most = not-tenth l;
         place = omega (arith, p.reading.place);
         unit = omega (arith, f, p.reading.unit, u);
-        low = omega (arith, e, f, more-fits l);
+        low = omega (arith, e, f, more_fits l);
         rest =
             ap₂ (λ (x y : ℕ). join at x y (i + 1) (find_from (suc n) (drop (i + 1) s))) e f
             ∙ ap (λ (j : ℕ). join at (value + (b - 128) * scale) (scale * 128) (i + 1) (find_from (suc n) (drop j s))) (add-one i)

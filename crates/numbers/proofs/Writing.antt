@@ -16,26 +16,26 @@ use Rattle.numbers.specs.Answer.{write_answer, written}
 use Rattle.numbers.proofs.Groups.{width_some, width_last, width_more, bytes_of_last, bytes_of_more}
 
 module _ (v : ℕ) (out : List ℕ) (at : ℕ) where
-  pub room-answer : at + width_of v ≤ length out → write_answer v out at ≡ accepted ((at + width_of v) ∷ [])
+  pub room_answer : at + width_of v ≤ length out → write_answer v out at ≡ accepted ((at + width_of v) ∷ [])
   unfolding write_answer
-  room-answer h = rw (le-leb (at + width_of v) (length out) h)
+  room_answer h = rw (le-leb (at + width_of v) (length out) h)
 
   pub room-written : at + width_of v ≤ length out → written v out at ≡ sets out at (bytes_of v)
   unfolding written
   room-written h = rw (le-leb (at + width_of v) (length out) h)
 
-  pub no-room-answer : length out < at + width_of v → write_answer v out at ≡ refused 24 0
+  pub no_room_answer : length out < at + width_of v → write_answer v out at ≡ refused 24 0
   unfolding write_answer
-  no-room-answer h = rw (lt-leb (at + width_of v) (length out) h)
+  no_room_answer h = rw (lt-leb (at + width_of v) (length out) h)
 
-  pub no-room-written : length out < at + width_of v → written v out at ≡ out
+  pub no_room-written : length out < at + width_of v → written v out at ≡ out
   unfolding written
-  no-room-written h = rw (lt-leb (at + width_of v) (length out) h)
+  no_room-written h = rw (lt-leb (at + width_of v) (length out) h)
 
   pub written-length : length (written v out at) ≡ length out
   written-length =
       ⊎_elim
-      (λ l. ap length (no-room-written l))
+      (λ l. ap length (no_room-written l))
       (λ l. ap length (room-written l) ∙ length-sets out at (bytes_of v))
       (below? (length out) (at + width_of v))
 
@@ -51,12 +51,12 @@ pub left_start : (v : ℕ) (out : List ℕ) (at : ℕ) → v < 2 ^ 64 → at + w
 left_start v out at h room = record { small = h; same = refl; room = room; place = refl; bytes = refl }
 
 module _ {v : ℕ} {old : List ℕ} {at : ℕ} {out : List ℕ} {rest i : ℕ} (l : Left v old at out rest i) where
-  pub left-within : i < length out
-  left-within = omega (arith, l.same, l.room, l.place, width_some rest)
+  pub left_within : i < length out
+  left_within = omega (arith, l.same, l.room, l.place, width_some rest)
 
   -- a byte that is not the last
-  pub left-next : (byte : ℕ) → byte ≡ rest % 128 + 128 → 128 ≤ rest → Left v old at (set out i byte) (rest / 128) (i + 1)
-  left-next byte b h =
+  pub left_next : (byte : ℕ) → byte ≡ rest % 128 + 128 → 128 ≤ rest → Left v old at (set out i byte) (rest / 128) (i + 1)
+  left_next byte b h =
       let e = l.bytes in
       record {
         small = omega (arith, l.small);
@@ -67,10 +67,10 @@ module _ {v : ℕ} {old : List ℕ} {at : ℕ} {out : List ℕ} {rest i : ℕ} (
       }
 
   -- the last
-  pub left-answer : (next : ℕ) → next ≡ i + 1 → rest < 128 → accepted (next ∷ []) ≡ write_answer v old at
-  left-answer next n h =
+  pub left_answer : (next : ℕ) → next ≡ i + 1 → rest < 128 → accepted (next ∷ []) ≡ write_answer v old at
+  left_answer next n h =
       let e : next ≡ at + width_of v = omega (arith, l.place, width_last rest h) in
-      rw (room-answer v old at l.room) (ap (λ (k : ℕ). accepted (k ∷ [])) e)
+      rw (room_answer v old at l.room) (ap (λ (k : ℕ). accepted (k ∷ [])) e)
 
-  pub left-done : rest < 128 → set out i rest ≡ written v old at
-  left-done h = let e = l.bytes in rw (room-written v old at l.room) (rw (bytes_of_last rest h) at e)
+  pub left_done : rest < 128 → set out i rest ≡ written v old at
+  left_done h = let e = l.bytes in rw (room-written v old at l.room) (rw (bytes_of_last rest h) at e)

@@ -1,6 +1,6 @@
-// The functions of `numbers` for callers in Rust and C, to which a slice is a pointer and a length.
-// Each but the first gives 0 or a refusal's number. A refusal's place goes where the place after
-// the number goes otherwise.
+// The functions of `numbers` with answers that cross to Rust and C, to which `numbers_c_c` exports
+// them. Each but the first gives 0 or a refusal's number. A refusal's place goes where the place
+// after the number goes otherwise.
 #![tactic(auto)]
 
 ghost use Rattle.std.specs.Prelude.{◌≡◌};
@@ -11,15 +11,13 @@ ghost use Rattle.numbers_c.specs.Codes.{place_after};
 
 use numbers::{ReadAnswer, WriteAnswer};
 
-#[unsafe(no_mangle)]
-pub extern "C" fn numbers_width(v: u64) -> usize
+pub fn numbers_width(v: u64) -> usize
     ensures { result ≡ width_of v }
 {
     numbers::width(v)
 }
 
-#[unsafe(no_mangle)]
-pub extern "C" fn numbers_write(v: u64, out: &mut [u8], at: usize, place: &mut u64) -> u32
+pub fn numbers_write(v: u64, out: &mut [u8], at: usize, place: &mut u64) -> u32
     ensures value { result ≡ code (write_answer v out.old at) }
     ensures place_after { place.new ≡ place_after 0 (write_answer v out.old at) }
     ensures out_after { out.new ≡ written v out.old at }
@@ -36,8 +34,7 @@ pub extern "C" fn numbers_write(v: u64, out: &mut [u8], at: usize, place: &mut u
     }
 }
 
-#[unsafe(no_mangle)]
-pub extern "C" fn numbers_read(s: &[u8], at: usize, value: &mut u64, place: &mut u64) -> u32
+pub fn numbers_read(s: &[u8], at: usize, value: &mut u64, place: &mut u64) -> u32
     ensures value { result ≡ code (read_answer s.now at) }
     ensures value_after { value.new ≡ value_or 0 value.old (read_answer s.now at) }
     ensures place_after { place.new ≡ place_after 1 (read_answer s.now at) }
@@ -45,14 +42,7 @@ pub extern "C" fn numbers_read(s: &[u8], at: usize, value: &mut u64, place: &mut
     tell(numbers::read(s, at), value, place)
 }
 
-#[unsafe(no_mangle)]
-pub extern "C" fn numbers_read_below(
-    s: &[u8],
-    at: usize,
-    bound: u64,
-    value: &mut u64,
-    place: &mut u64,
-) -> u32
+pub fn numbers_read_below(s: &[u8], at: usize, bound: u64, value: &mut u64, place: &mut u64) -> u32
     ensures value { result ≡ code (read_below_answer bound s.now at) }
     ensures value_after { value.new ≡ value_or 0 value.old (read_below_answer bound s.now at) }
     ensures place_after { place.new ≡ place_after 1 (read_below_answer bound s.now at) }

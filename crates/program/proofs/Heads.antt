@@ -11,8 +11,8 @@ use Rattle.numbers.specs.Answer.{read_below_answer}
 use Rattle.numbers.proofs.Below.{below_is_read}
 use Rattle.record.specs.Numbers.{number_at, next_at, after, numbers_from, numbers_answer}
 use Rattle.record.proofs.Ways.{goes_on, stops, passed}
-use Rattle.record.proofs.Places.{number_is, next-is, after_add, length_from}
-use Rattle.record.proofs.Numbers.{numbers_on, numbers-off, numbers-end, place_after}
+use Rattle.record.proofs.Places.{number_is, next_is, after_add, length_from}
+use Rattle.record.proofs.Numbers.{numbers_on, numbers_off, numbers_end, place_after}
 use Rattle.program.specs.Input.{ctx_in, clk_in, ptr_in, vars_in, evals_in, cells_in, cells_at, head_answer}
 use Rattle.program.proofs.Cells.{all_stored}
 
@@ -23,37 +23,37 @@ module _ (s : List ℕ) where
       ap₂ (λ (x y : ℕ). x ∷ y ∷ numbers_from 4 s at₂) a (c ∙ ap (number_at s) b)
       ∙ ap (λ (k : ℕ). number_at s 0 ∷ number_at s (next_at s 0) ∷ numbers_from 4 s k) (d ∙ ap (next_at s) b)
 
-  pub ctx-off : (number place : ℕ) → read_below_answer (2 ^ 32) s 0 ≡ refused number place → refused number place ≡ head_answer s
+  pub ctx_off : (number place : ℕ) → read_below_answer (2 ^ 32) s 0 ≡ refused number place → refused number place ≡ head_answer s
   unfolding head_answer
-  ctx-off number place e =
-      sym (stops (numbers_answer (2 ^ 32) 2 s 0) (numbers_answer (2 ^ 64) 4 s (after 2 s 0)) number place (sym (numbers-off (2 ^ 32) s 2 0 0 _ number place e refl (omega arith))))
+  ctx_off number place e =
+      sym (stops (numbers_answer (2 ^ 32) 2 s 0) (numbers_answer (2 ^ 64) 4 s (after 2 s 0)) number place (sym (numbers_off (2 ^ 32) s 2 0 0 _ number place e refl (omega arith))))
 
   module _ (ctx clk-at : ℕ) (e : read_below_answer (2 ^ 32) s 0 ≡ accepted (ctx ∷ clk-at ∷ [])) where
     one_left : numbers_answer (2 ^ 32) 1 s clk-at ≡ numbers_answer (2 ^ 32) 2 s 0
     one_left = numbers_on (2 ^ 32) s 2 0 0 _ ctx clk-at e refl (omega arith)
 
-    pub clk-off : (number place : ℕ) → read_below_answer (2 ^ 32) s clk-at ≡ refused number place → refused number place ≡ head_answer s
+    pub clk_off : (number place : ℕ) → read_below_answer (2 ^ 32) s clk-at ≡ refused number place → refused number place ≡ head_answer s
     unfolding head_answer
-    clk-off number place f =
-        sym (stops (numbers_answer (2 ^ 32) 2 s 0) (numbers_answer (2 ^ 64) 4 s (after 2 s 0)) number place (sym (numbers-off (2 ^ 32) s 2 1 clk-at _ number place f one_left (omega arith))))
+    clk_off number place f =
+        sym (stops (numbers_answer (2 ^ 32) 2 s 0) (numbers_answer (2 ^ 64) 4 s (after 2 s 0)) number place (sym (numbers_off (2 ^ 32) s 2 1 clk-at _ number place f one_left (omega arith))))
 
     module _ (clk ptr-at : ℕ) (f : read_below_answer (2 ^ 32) s clk-at ≡ accepted (clk ∷ ptr-at ∷ [])) where
       both_read : numbers_answer (2 ^ 32) 2 s 0 ≡ accepted (0 ∷ ptr-at ∷ [])
-      both_read = sym (numbers-end (2 ^ 32) s 2 2 ptr-at _ (numbers_on (2 ^ 32) s 2 1 clk-at _ clk ptr-at f one_left (omega arith)) (omega arith))
+      both_read = sym (numbers_end (2 ^ 32) s 2 2 ptr-at _ (numbers_on (2 ^ 32) s 2 1 clk-at _ clk ptr-at f one_left (omega arith)) (omega arith))
 
-      pub head-rest : numbers_answer (2 ^ 64) 4 s ptr-at ≡ head_answer s
+      pub head_rest : numbers_answer (2 ^ 64) 4 s ptr-at ≡ head_answer s
       unfolding head_answer
-      head-rest =
+      head_rest =
           ap (numbers_answer (2 ^ 64) 4 s) (place_after (2 ^ 32) s 2 0 0 ptr-at both_read)
           ∙ sym (goes_on (numbers_answer (2 ^ 32) 2 s 0) (numbers_answer (2 ^ 64) 4 s (after 2 s 0)) (0 ∷ ptr-at ∷ []) both_read)
 
-      pub head-stored : (old new : List ℕ) → new ≡ sets (set (set old 0 ctx) 1 clk) 2 (numbers_from 4 s ptr-at) → length old ≡ 6 → new ≡ numbers_from 6 s 0
-      head-stored old new q h =
+      pub head_stored : (old new : List ℕ) → new ≡ sets (set (set old 0 ctx) 1 clk) 2 (numbers_from 4 s ptr-at) → length old ≡ 6 → new ≡ numbers_from 6 s 0
+      head_stored old new q h =
           let a = (below_is_read (2 ^ 32) s 0 ctx clk-at e).read in
           let b = (below_is_read (2 ^ 32) s clk-at clk ptr-at f).read in
           q
           ∙ all_stored (ctx ∷ clk ∷ numbers_from 4 s ptr-at) old (omega (arith, length_from 4 s ptr-at))
-          ∙ two-before ctx clk clk-at ptr-at (number_is s 0 ctx clk-at a) (next-is s 0 ctx clk-at a) (number_is s clk-at clk ptr-at b) (next-is s clk-at clk ptr-at b)
+          ∙ two-before ctx clk clk-at ptr-at (number_is s 0 ctx clk-at a) (next_is s 0 ctx clk-at a) (number_is s clk-at clk ptr-at b) (next_is s clk-at clk ptr-at b)
 
   -- where the cells stand
   pub cells_at_lem : (v place : ℕ) → head_answer s ≡ accepted (v ∷ place ∷ []) → place ≡ cells_at s
@@ -72,13 +72,13 @@ module _ (s : List ℕ) where
     unfolding numbers_from after clk_in
     clk_is = ap (λ (l : List ℕ). get_or l 1 0) q
 
-    pub ptr-is : get_or head 2 0 ≡ ptr_in s
+    pub ptr_is : get_or head 2 0 ≡ ptr_in s
     unfolding numbers_from after ptr_in
-    ptr-is = ap (λ (l : List ℕ). get_or l 2 0) q
+    ptr_is = ap (λ (l : List ℕ). get_or l 2 0) q
 
-    pub vars-are : get_or head 3 0 ≡ vars_in s
+    pub vars_are : get_or head 3 0 ≡ vars_in s
     unfolding numbers_from after vars_in
-    vars-are = ap (λ (l : List ℕ). get_or l 3 0) q
+    vars_are = ap (λ (l : List ℕ). get_or l 3 0) q
 
     pub evals_are : get_or head 4 0 ≡ evals_in s
     unfolding numbers_from after evals_in

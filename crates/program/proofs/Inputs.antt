@@ -26,9 +26,9 @@ module _ (n : ℕ) (s : List ℕ) (at : ℕ) where
   unfolding cells_answer
   cells_over h = rw (lt-ltb most_cells n h)
 
-  pub cells-off : (number place : ℕ) → numbers_answer (2 ^ 64) n s at ≡ refused number place → n ≤ most_cells → refused number place ≡ cells_answer n s at
+  pub cells_off : (number place : ℕ) → numbers_answer (2 ^ 64) n s at ≡ refused number place → n ≤ most_cells → refused number place ≡ cells_answer n s at
   unfolding cells_answer
-  cells-off number place e h = rw (le-ltb most_cells n h) (sym (stops (numbers_answer (2 ^ 64) n s at) left number place e))
+  cells_off number place e h = rw (le-ltb most_cells n h) (sym (stops (numbers_answer (2 ^ 64) n s at) left number place e))
 
   cells-read : (vs : List ℕ) → numbers_answer (2 ^ 64) n s at ≡ accepted vs → n ≤ most_cells → left ≡ cells_answer n s at
   unfolding cells_answer
@@ -42,30 +42,30 @@ module _ (n : ℕ) (s : List ℕ) (at : ℕ) where
       there : after n s at < length s → left ≡ refused 23 0
       there m = rw (lt-ltb (after n s at) (length s) m)
 
-  pub cells-end : (v end : ℕ) → numbers_answer (2 ^ 64) n s at ≡ accepted (v ∷ end ∷ []) → n ≤ most_cells → length s ≤ end → accepted (0 ∷ end ∷ []) ≡ cells_answer n s at
-  cells-end v end e h l =
+  pub cells_end : (v end : ℕ) → numbers_answer (2 ^ 64) n s at ≡ accepted (v ∷ end ∷ []) → n ≤ most_cells → length s ≤ end → accepted (0 ∷ end ∷ []) ≡ cells_answer n s at
+  cells_end v end e h l =
       let p = place_after (2 ^ 64) s n at v end e in
       ap (λ (k : ℕ). accepted (0 ∷ k ∷ [])) p ∙ sym (none (omega arith)) ∙ cells-read (v ∷ end ∷ []) e h
     where
       none : length s ≤ after n s at → left ≡ accepted (0 ∷ after n s at ∷ [])
       none m = rw (le-ltb (after n s at) (length s) m)
 
-  pub cells-few : (vs : List ℕ) → cells_answer n s at ≡ accepted vs → n ≤ most_cells
+  pub cells_few : (vs : List ℕ) → cells_answer n s at ≡ accepted vs → n ≤ most_cells
   unfolding cells_answer
-  cells-few vs e = ltb-false most_cells n (not_stopped (ltb most_cells n) (or_else (numbers_answer (2 ^ 64) n s at) left) 24 0 vs e).0
+  cells_few vs e = ltb-false most_cells n (not_stopped (ltb most_cells n) (or_else (numbers_answer (2 ^ 64) n s at) left) 24 0 vs e).0
 
-  pub cells-place : (v end : ℕ) → cells_answer n s at ≡ accepted (v ∷ end ∷ []) → end ≡ after n s at
+  pub cells_place : (v end : ℕ) → cells_answer n s at ≡ accepted (v ∷ end ∷ []) → end ≡ after n s at
   unfolding cells_answer
-  cells-place v end e =
+  cells_place v end e =
       let a = (not_stopped (ltb most_cells n) (or_else (numbers_answer (2 ^ 64) n s at) left) 24 0 (v ∷ end ∷ []) e).1 in
       let b = (passed (numbers_answer (2 ^ 64) n s at) left (v ∷ end ∷ []) a).then in
       (values_are 0 (after n s at) v end (not_stopped (ltb (after n s at) (length s)) (accepted (0 ∷ after n s at ∷ [])) 23 0 (v ∷ end ∷ []) b).1).1
 
 -- "129 to 32768"
 module _ (wires : ℕ) where
-  pub room-past : most_wires < wires → false ≡ over_room wires
+  pub room_past : most_wires < wires → false ≡ over_room wires
   unfolding over_room
-  room-past h = sym (second_fails (ltb most_here wires) (leb wires most_wires) (lt-leb wires most_wires h))
+  room_past h = sym (second_fails (ltb most_here wires) (leb wires most_wires) (lt-leb wires most_wires h))
 
   pub room_is : wires ≤ most_wires → ltb most_here wires ≡ over_room wires
   unfolding over_room
@@ -75,8 +75,8 @@ module _ (wires : ℕ) where
       and-true true = refl
       and-true false = refl
 
-  pub room-enough : over_room wires ≡ false → wires ≤ most_wires → wires ≤ most_here
-  room-enough e h = ltb-false most_here wires (room_is h ∙ e)
+  pub room_enough : over_room wires ≡ false → wires ≤ most_wires → wires ≤ most_here
+  room_enough e h = ltb-false most_here wires (room_is h ∙ e)
 
 -- the whole input
 module _ (s : List ℕ) where
@@ -86,17 +86,17 @@ module _ (s : List ℕ) where
   abbrev cells : Told
   cells = cells_answer (cells_in s) s (cells_at s)
 
-  pub head-off : (number place : ℕ) → head_answer s ≡ refused number place → refused number place ≡ input_answer s
+  pub head_off : (number place : ℕ) → head_answer s ≡ refused number place → refused number place ≡ input_answer s
   unfolding input_answer
-  head-off number place e = sym (stops (head_answer s) (or_else cells last) number place e)
+  head_off number place e = sym (stops (head_answer s) (or_else cells last) number place e)
 
   module _ (vs : List ℕ) (e : head_answer s ≡ accepted vs) (n at : ℕ) (a : n ≡ cells_in s) (b : at ≡ cells_at s) where
     cells_same : cells ≡ cells_answer n s at
     cells_same = sym (ap₂ (λ (x y : ℕ). cells_answer x s y) a b)
 
-    pub input-cells-off : (number place : ℕ) → cells_answer n s at ≡ refused number place → refused number place ≡ input_answer s
+    pub input_cells_off : (number place : ℕ) → cells_answer n s at ≡ refused number place → refused number place ≡ input_answer s
     unfolding input_answer
-    input-cells-off number place f =
+    input_cells_off number place f =
         sym (goes_on (head_answer s) (or_else cells last) vs e ∙ stops cells last number place (cells_same ∙ f))
 
     input_last : (ws : List ℕ) → cells_answer n s at ≡ accepted ws → last ≡ input_answer s
@@ -107,12 +107,12 @@ module _ (s : List ℕ) where
       sums : over_room (vars_in s + evals_in s) ≡ over_room (num-vars + num-eval)
       sums = sym (ap₂ (λ (x y : ℕ). over_room (x + y)) c d)
 
-      pub input-over : over_room (num-vars + num-eval) ≡ true → refused 24 0 ≡ input_answer s
-      input-over g = sym (ap (λ (x : Bool). cond x (refused 24 0) (accepted (0 ∷ after (cells_in s) s (cells_at s) ∷ []))) (sums ∙ g)) ∙ input_last (v ∷ end ∷ []) f
+      pub input_over : over_room (num-vars + num-eval) ≡ true → refused 24 0 ≡ input_answer s
+      input_over g = sym (ap (λ (x : Bool). cond x (refused 24 0) (accepted (0 ∷ after (cells_in s) s (cells_at s) ∷ []))) (sums ∙ g)) ∙ input_last (v ∷ end ∷ []) f
 
-      pub input-end : over_room (num-vars + num-eval) ≡ false → accepted (0 ∷ end ∷ []) ≡ input_answer s
-      input-end g =
-          ap (λ (k : ℕ). accepted (0 ∷ k ∷ [])) (cells-place n s at v end f ∙ ap₂ (λ (x y : ℕ). after x s y) a b)
+      pub input_end : over_room (num-vars + num-eval) ≡ false → accepted (0 ∷ end ∷ []) ≡ input_answer s
+      input_end g =
+          ap (λ (k : ℕ). accepted (0 ∷ k ∷ [])) (cells_place n s at v end f ∙ ap₂ (λ (x y : ℕ). after x s y) a b)
           ∙ sym (ap (λ (x : Bool). cond x (refused 24 0) (accepted (0 ∷ after (cells_in s) s (cells_at s) ∷ []))) (sums ∙ g))
           ∙ input_last (v ∷ end ∷ []) f
 
@@ -137,6 +137,6 @@ input_good s vs e =
     record {
       ctx_fits = n.0;
       clk_fits = n.1.0;
-      few_cells = cells-few (cells_in s) s (cells_at s) c.values c.first;
+      few_cells = cells_few (cells_in s) s (cells_at s) c.values c.first;
       room = (not_stopped (over_room (vars_in s + evals_in s)) (accepted (0 ∷ after (cells_in s) s (cells_at s) ∷ [])) 24 0 vs c.then).0;
     }

@@ -13,16 +13,16 @@ use Rattle.field.specs.Lists.{each}
 use Rattle.field.proofs.Cases.{below?}
 use Rattle.field.proofs.Each.{each_more}
 use Rattle.eval_circuit.specs.Evaluated.{circuit_at, eval_answer}
-use Rattle.eval_circuit.proofs.Accepted.{Valid, accepted-valid}
+use Rattle.eval_circuit.proofs.Accepted.{Valid, accepted_valid}
 use Rattle.rows.specs.ByWire.{circuit_rows}
-use Rattle.rows.proofs.WireRows.{circuit-rows-length}
+use Rattle.rows.proofs.WireRows.{circuit_rows_length}
 use Rattle.record.proofs.Ways.{passed}
 use Rattle.record.proofs.Used.{front_taken}
 use Rattle.program.specs.Input.{ctx_in, clk_in, ptr_in, vars_in, evals_in, memory_in, input_answer}
 use Rattle.program.specs.Text.{decimal, part, lines}
 use Rattle.program.specs.Answer.{here, refuse, accept, refuse_text, circuit_text, text_of, program_answer, program_text, most_text, text_length, text_after}
-use Rattle.program.proofs.Texts.{parts-length, behind_last}
-use Rattle.program.proofs.Inputs.{input_good, room-enough}
+use Rattle.program.proofs.Texts.{parts_length, behind_last}
+use Rattle.program.proofs.Inputs.{input_good, room_enough}
 
 -- a text of whole lines that fits
 pub record Fitting (text : List ℕ) : Type 0 where
@@ -50,7 +50,7 @@ refusal_fitting number =
     record {
       front = refuse ++ unended 1 (number ∷ []) 0 refl refl;
       ends = ends-in 1 (number ∷ []) 0 refl refl refuse;
-      short = omega (arith, length-append refuse (lines 1 (number ∷ [])), parts-length 1 (number ∷ []) 1);
+      short = omega (arith, length-append refuse (lines 1 (number ∷ [])), parts_length 1 (number ∷ []) 1);
     }
 
 module _ (ctx clk ptr num-vars num-eval : ℕ) (memory vs : List ℕ) (e : eval_answer ctx clk ptr num-vars num-eval memory here ≡ accepted vs) (h : num-vars + num-eval ≤ 128) where
@@ -61,16 +61,16 @@ module _ (ctx clk ptr num-vars num-eval : ℕ) (memory vs : List ℕ) (e : eval_
   first = (num-vars / 2 + num-eval) ∷ (num-vars + num-eval) ∷ []
 
   valid : Valid ptr num-vars num-eval memory here
-  valid = accepted-valid ctx clk ptr num-vars num-eval memory here vs e
+  valid = accepted_valid ctx clk ptr num-vars num-eval memory here vs e
 
-  rows-length : length rows ≡ 16 * (num-vars / 2 + num-eval)
-  rows-length = circuit-rows-length ctx clk ptr (circuit_at memory ptr num-vars num-eval)
+  rows_length : length rows ≡ 16 * (num-vars / 2 + num-eval)
+  rows_length = circuit_rows_length ctx clk ptr (circuit_at memory ptr num-vars num-eval)
 
   abbrev last : ℕ
   last = 16 * (num-vars / 2 + num-eval) - 1
 
   some : length rows ≡ suc last
-  some = let s = valid.some_evals in omega (arith, rows-length)
+  some = let s = valid.some_evals in omega (arith, rows_length)
 
   whole : last % 16 ≡ 16 - 1
   whole = let s = valid.some_evals in omega arith
@@ -81,15 +81,15 @@ module _ (ctx clk ptr num-vars num-eval : ℕ) (memory vs : List ℕ) (e : eval_
       let w = valid.even_vars in
       omega (
         arith,
-        rows-length,
+        rows_length,
         length-append accept (lines 2 first ++ lines 16 rows),
         length-append (lines 2 first) (lines 16 rows),
-        parts-length 2 first 2,
-        parts-length 16 rows (length rows),
+        parts_length 2 first 2,
+        parts_length 16 rows (length rows),
       )
 
-  pub rows-fitting : Fitting (circuit_text ctx clk ptr (circuit_at memory ptr num-vars num-eval))
-  rows-fitting =
+  pub rows_fitting : Fitting (circuit_text ctx clk ptr (circuit_at memory ptr num-vars num-eval))
+  rows_fitting =
       record {
         front = accept ++ (lines 2 first ++ unended 16 rows last some whole);
         ends = ap (λ (l : List ℕ). accept ++ l) (ends-in 16 rows last some whole (lines 2 first)) ∙ sym (append_assoc accept (lines 2 first ++ unended 16 rows last some whole) (10 ∷ []));
@@ -104,9 +104,9 @@ text_fitting s = go (program_answer s) refl
     go (refused number place) e = refusal_fitting number
     go (accepted vs) e =
         let a = passed (input_answer s) (eval_answer (ctx_in s) (clk_in s) (ptr_in s) (vars_in s) (evals_in s) (memory_in s) here) vs e in
-        let v = accepted-valid (ctx_in s) (clk_in s) (ptr_in s) (vars_in s) (evals_in s) (memory_in s) here vs a.then in
-        rows-fitting (ctx_in s) (clk_in s) (ptr_in s) (vars_in s) (evals_in s) (memory_in s) vs a.then
-        (room-enough (vars_in s + evals_in s) (input_good s a.values a.first).room v.few)
+        let v = accepted_valid (ctx_in s) (clk_in s) (ptr_in s) (vars_in s) (evals_in s) (memory_in s) here vs a.then in
+        rows_fitting (ctx_in s) (clk_in s) (ptr_in s) (vars_in s) (evals_in s) (memory_in s) vs a.then
+        (room_enough (vars_in s + evals_in s) (input_good s a.values a.first).room v.few)
 
 -- a buffer with room for the longest text has all of the text at its start
 module _ (s out : List ℕ) (h : most_text ≤ length out) where

@@ -24,7 +24,7 @@ use Rattle.eval_circuit.specs.Evaluated.{memory_cells, region_cells, circuit_at,
 use Rattle.record.specs.Numbers.{next_at, after, numbers_answer}
 use Rattle.program.specs.Input.{ctx_in, clk_in, ptr_in, vars_in, evals_in, memory_in, cells_in, cells_at, head_answer, most_cells, cells_answer, over_room, input_answer}
 use Rattle.program.specs.Answer.{here, program_answer}
-use Rattle.program.proofs.Inputs.{input_good, room-enough}
+use Rattle.program.proofs.Inputs.{input_good, room_enough}
 
 -- the number of a refusal
 abbrev number : Told → ℕ
@@ -133,7 +133,7 @@ evaluation_other : (ctx clk ptr num-vars num-eval : ℕ) (memory : List ℕ) →
 unfolding eval_answer of_cells
 evaluation_other ctx clk ptr num-vars num-eval memory r =
     region_other ptr num-vars num-eval (memory_cells memory) _
-    (λ few even. rw (room-here num-vars num-eval (room-enough (num-vars + num-eval) r few) even)
+    (λ few even. rw (room-here num-vars num-eval (room_enough (num-vars + num-eval) r few) even)
     (stop_other (ltb (first_over c.cells) (length c.cells)) 7 (ptr + first_over c.cells) (circuit_answer ctx clk c) (λ q. omega arith) (λ _. circuit_other ctx clk c)))
   where
     c : Circuit

@@ -15,7 +15,7 @@ use Rattle.record.proofs.Used.{front_taken}
 use Rattle.program.specs.Input.{ctx_in, clk_in, ptr_in, vars_in, evals_in, cells_in, cells_at, memory_in, most_cells, over_room, input_answer}
 use Rattle.program.specs.Answer.{here, refuse_text, circuit_text, text_of, program_answer, program_text, most_text, text_length, text_after}
 use Rattle.program.specs.Inside.{WhereAccepted, Loaded, eval_text}
-use Rattle.program.proofs.Heads.{ctx_is, clk_is, ptr-is, vars-are, evals_are, cells_are}
+use Rattle.program.proofs.Heads.{ctx_is, clk_is, ptr_is, vars_are, evals_are, cells_are}
 use Rattle.program.proofs.Inputs.{input_good}
 
 module _ (s out : List ℕ) where
@@ -23,10 +23,10 @@ module _ (s out : List ℕ) where
   unfolding text_length text_after
   no_text h = (rw (lt-leb most_text (length out) h), rw (lt-leb most_text (length out) h))
 
-  pub text-there : (text : List ℕ) (n : ℕ) (new : List ℕ) → n ≡ length text → new ≡ sets out 0 text → text ≡ program_text s → most_text ≤ length out
+  pub text_there : (text : List ℕ) (n : ℕ) (new : List ℕ) → n ≡ length text → new ≡ sets out 0 text → text ≡ program_text s → most_text ≤ length out
       → (n ≡ text_length s out) × (new ≡ text_after s out)
   unfolding text_length text_after
-  text-there text n new e q t h =
+  text_there text n new e q t h =
       (rw (le-leb most_text (length out) h) (e ∙ ap length t), rw (le-leb most_text (length out) h) (q ∙ ap (sets out 0) t))
 
 module _ (s : List ℕ) where
@@ -35,19 +35,19 @@ module _ (s : List ℕ) where
       text_of (or_else t (eval_answer (ctx_in s) (clk_in s) (ptr_in s) (vars_in s) (evals_in s) (memory_in s) here))
       (circuit_text (ctx_in s) (clk_in s) (ptr_in s) (circuit_at (memory_in s) (ptr_in s) (vars_in s) (evals_in s)))
 
-  pub input-refused : (number place : ℕ) → input_answer s ≡ refused number place → refuse_text number ≡ program_text s
+  pub input_refused : (number place : ℕ) → input_answer s ≡ refused number place → refuse_text number ≡ program_text s
   unfolding program_text program_answer
-  input-refused number place e = ap text (sym e)
+  input_refused number place e = ap text (sym e)
 
   six : (f : ℕ → ℕ → ℕ → ℕ → ℕ → List ℕ → List ℕ) {a a' b b' c c' d d' e e' : ℕ} {m m' : List ℕ}
       → a ≡ a' → b ≡ b' → c ≡ c' → d ≡ d' → e ≡ e' → m ≡ m' → f a b c d e m ≡ f a' b' c' d' e' m'
   six f p q r t u v = cc
 
-  pub input-evaluated : (ctx clk ptr num-vars num-eval : ℕ) (memory vs : List ℕ) → input_answer s ≡ accepted vs
+  pub input_evaluated : (ctx clk ptr num-vars num-eval : ℕ) (memory vs : List ℕ) → input_answer s ≡ accepted vs
       → ctx ≡ ctx_in s → clk ≡ clk_in s → ptr ≡ ptr_in s → num-vars ≡ vars_in s → num-eval ≡ evals_in s → memory ≡ memory_in s
       → eval_text ctx clk ptr num-vars num-eval memory ≡ program_text s
   unfolding program_text program_answer
-  input-evaluated ctx clk ptr num-vars num-eval memory vs e p q r t u v = six eval_text p q r t u v ∙ ap text (sym e)
+  input_evaluated ctx clk ptr num-vars num-eval memory vs e p q r t u v = six eval_text p q r t u v ∙ ap text (sym e)
 
   -- the memory that is read is the first n cells of what it is read into
   memory-taken : (n : ℕ) (old new : List ℕ) → new ≡ sets old 0 (memory_in s) → n ≡ cells_in s → n ≤ length old → take n new ≡ memory_in s
@@ -75,12 +75,12 @@ input_given s head memory old vs e loads l =
     record {
       ctx = ctx_is s head q;
       clk = clk_is s head q;
-      ptr = ptr-is s head q;
-      vars = vars-are s head q;
+      ptr = ptr_is s head q;
+      vars = vars_are s head q;
       evals = evals_are s head q;
       ctx_fits = omega (arith, ctx_is s head q, g.ctx_fits);
       clk_fits = omega (arith, clk_is s head q, g.clk_fits);
       held = omega (arith, few, ap length (loads vs e).cells, length-sets old 0 (memory_in s), l);
-      room = ap₂ (λ (x y : ℕ). over_room (x + y)) (vars-are s head q) (evals_are s head q) ∙ g.room;
+      room = ap₂ (λ (x y : ℕ). over_room (x + y)) (vars_are s head q) (evals_are s head q) ∙ g.room;
       cells = memory-taken s (get_or head 5 0) old memory (loads vs e).cells (cells_are s head q) (omega (arith, few, l));
     }

@@ -15,19 +15,19 @@ use Rattle.trace.specs.Record.{record_wires}
 use Rattle.trace.proofs.Stores.{sets_in}
 use Rattle.rows.specs.Rows.{record_rows}
 use Rattle.rows.specs.Fill.{num_rows, filled_rows}
-use Rattle.rows.proofs.WireRows.{record-rows-length}
+use Rattle.rows.proofs.WireRows.{record_rows_length}
 use Rattle.program.specs.Text.{part, lines}
 use Rattle.program.specs.Answer.{accept, refuse, refuse_text}
 use Rattle.program.specs.Inside.{no_rows, Fits, record_text}
-use Rattle.program.proofs.Texts.{Wrote, wrote, wrote_on, parts-length, same_lines}
+use Rattle.program.proofs.Texts.{Wrote, wrote, wrote_on, parts_length, same_lines}
 
 no_rows_lem : length no_rows ≡ 2048
 no_rows_lem = refl
 
 -- a word at the start, and a place behind it
 module _ (word out mid : List ℕ) (next : ℕ) (e : next ≡ length word) (q : mid ≡ sets out 0 word) where
-  pub word-wrote : Wrote out 0 word mid next
-  word-wrote = wrote word (e ∙ sym (zero-add (length word))) q
+  pub word_wrote : Wrote out 0 word mid next
+  word_wrote = wrote word (e ∙ sym (zero-add (length word))) q
 
 pub text_is : {out text new : List ℕ} {end : ℕ} → Wrote out 0 text new end → (end ≡ length text) × (new ≡ sets out 0 text)
 text_is {out} {text} w = (w.place ∙ zero-add (length text), w.bytes)
@@ -37,14 +37,14 @@ pub refusal_wrote : (number : ℕ) (out mid new : List ℕ) (at end : ℕ)
     → at ≡ length refuse → mid ≡ sets out 0 refuse
     → end ≡ at + length (each (part 1 (number ∷ [])) 1) → new ≡ sets mid at (each (part 1 (number ∷ [])) 1)
     → (end ≡ length (refuse_text number)) × (new ≡ sets out 0 (refuse_text number))
-refusal_wrote number out mid new at end e q f p = text_is (wrote_on (word-wrote refuse out mid at e q) (wrote (lines 1 (number ∷ [])) f p))
+refusal_wrote number out mid new at end e q f p = text_is (wrote_on (word_wrote refuse out mid at e q) (wrote (lines 1 (number ∷ [])) f p))
 
 module _ (h : RecordHeader) (b : Lent) (out : List ℕ) (fits : Fits h b out) (rows : List ℕ) (r : rows ≡ filled_rows h b 0 no_rows) where
   filled : rows ≡ sets no_rows 0 (record_rows h b)
   filled = r ∙ ap (λ (t : Told). changed t (sets no_rows 0 (record_rows h b)) no_rows) fits.fills
 
-  pub rows-length : length rows ≡ 2048
-  rows-length = ap length filled ∙ length-sets no_rows 0 (record_rows h b) ∙ no_rows_lem
+  pub rows_length : length rows ≡ 2048
+  rows_length = ap length filled ∙ length-sets no_rows 0 (record_rows h b) ∙ no_rows_lem
 
   row-cell : (k : ℕ) → k < 16 * num_rows h → get_or rows k 0 ≡ get_or (record_rows h b) k 0
   row-cell k l =
@@ -52,16 +52,16 @@ module _ (h : RecordHeader) (b : Lent) (out : List ℕ) (fits : Fits h b out) (r
       let z : 0 + k ≡ k = omega arith in
       ap (λ (xs : List ℕ). get_or xs k 0) filled
       ∙ ap (λ (i : ℕ). get_or (sets no_rows 0 (record_rows h b)) i 0) (sym z)
-      ∙ sets_in (record_rows h b) no_rows 0 k (omega (arith, record-rows-length h b, no_rows_lem)) (omega (arith, record-rows-length h b))
+      ∙ sets_in (record_rows h b) no_rows 0 k (omega (arith, record_rows_length h b, no_rows_lem)) (omega (arith, record_rows_length h b))
 
   row-lines : (n : ℕ) → n ≡ 16 * num_rows h → each (part 16 rows) n ≡ lines 16 (record_rows h b)
-  row-lines n e = same_lines 16 rows (record_rows h b) n (e ∙ sym (record-rows-length h b)) (λ k l. row-cell k (omega arith))
+  row-lines n e = same_lines 16 rows (record_rows h b) n (e ∙ sym (record_rows_length h b)) (λ k l. row-cell k (omega arith))
 
   abbrev first : List ℕ
   first = num_rows h ∷ record_wires h ∷ []
 
   pub lines-held : (n : ℕ) → n ≡ 16 * num_rows h → n ≤ length rows
-  lines-held n j = let few = fits.few in omega (arith, rows-length)
+  lines-held n j = let few = fits.few in omega (arith, rows_length)
 
   -- behind the first line there is room for the others
   module _ (mid there : List ℕ) (at rows_at n : ℕ) (e : at ≡ length accept) (q : mid ≡ sets out 0 accept)
@@ -74,12 +74,12 @@ module _ (h : RecordHeader) (b : Lent) (out : List ℕ) (fits : Fits h b out) (r
         let few = fits.few in
         let room = fits.room in
         let seven : at ≡ 7 = e in
-        omega (arith, there-length, parts-length 2 first 2)
+        omega (arith, there-length, parts_length 2 first 2)
 
-    pub record-wrote : (new : List ℕ) (end : ℕ) → end ≡ rows_at + length (each (part 16 rows) n) → new ≡ sets there rows_at (each (part 16 rows) n)
+    pub record_wrote : (new : List ℕ) (end : ℕ) → end ≡ rows_at + length (each (part 16 rows) n) → new ≡ sets there rows_at (each (part 16 rows) n)
         → (end ≡ length (record_text h b)) × (new ≡ sets out 0 (record_text h b))
-    record-wrote new end g u =
-        text_is (wrote_on (word-wrote accept out mid at e q) (wrote_on (wrote (lines 2 first) f p) rows-wrote))
+    record_wrote new end g u =
+        text_is (wrote_on (word_wrote accept out mid at e q) (wrote_on (wrote (lines 2 first) f p) rows-wrote))
       where
         rows-wrote : Wrote there rows_at (lines 16 (record_rows h b)) new end
         rows-wrote = rw (← row-lines n j) (wrote (each (part 16 rows) n) g u)

@@ -52,14 +52,14 @@ module _ (width : ℕ) (cells : List ℕ) where
   part_length : (k : ℕ) → length (part width cells k) ≤ 21
   part_length k = omega (arith, length-append (decimal (get_or cells k 0)) (behind width k ∷ []), decimal-length (get_or cells k 0))
 
-  pub parts-length : (n : ℕ) → length (each (part width cells) n) ≤ 21 * n
-  parts-length zero = omega (arith, ap length (each_none (part width cells)))
-  parts-length (suc n) =
+  pub parts_length : (n : ℕ) → length (each (part width cells) n) ≤ 21 * n
+  parts_length zero = omega (arith, ap length (each_none (part width cells)))
+  parts_length (suc n) =
       omega (
         arith,
         ap length (each_more (part width cells) n),
         length-append (each (part width cells) n) (part width cells n),
-        parts-length n,
+        parts_length n,
         part_length n,
       )
 
@@ -73,15 +73,15 @@ module _ (width : ℕ) (cells : List ℕ) where
   module _ (i : ℕ) {old : List ℕ} {at : ℕ} {mid : List ℕ} {m : ℕ} (w : Wrote old at (each (part width cells) i) mid m) where
     -- there is room for a number and the byte behind it
     module _ (n : ℕ) (h : i < n) (r : at + 21 * n ≤ length old) where
-      pub number-room : m + length (decimal (get_or cells i 0)) ≤ length mid
-      number-room = omega (arith, w.place, wrote_length w, parts-length i, decimal-length (get_or cells i 0))
+      pub number_room : m + length (decimal (get_or cells i 0)) ≤ length mid
+      number_room = omega (arith, w.place, wrote_length w, parts_length i, decimal-length (get_or cells i 0))
 
-      pub byte-room : (end : ℕ) → end ≡ m + length (decimal (get_or cells i 0)) → end < length mid
-      byte-room end e = omega (arith, w.place, wrote_length w, parts-length i, decimal-length (get_or cells i 0))
+      pub byte_room : (end : ℕ) → end ≡ m + length (decimal (get_or cells i 0)) → end < length mid
+      byte_room end e = omega (arith, w.place, wrote_length w, parts_length i, decimal-length (get_or cells i 0))
 
-    pub line-next : (end : ℕ) (there : List ℕ) (b : ℕ) → end ≡ m + length (decimal (get_or cells i 0)) → there ≡ sets mid m (decimal (get_or cells i 0)) → b ≡ behind width i
+    pub line_next : (end : ℕ) (there : List ℕ) (b : ℕ) → end ≡ m + length (decimal (get_or cells i 0)) → there ≡ sets mid m (decimal (get_or cells i 0)) → b ≡ behind width i
         → Wrote old at (each (part width cells) (i + 1)) (set there end b) (end + 1)
-    line-next end there b e q f =
+    line_next end there b e q f =
         rw (add-one i, each_more (part width cells) i)
         (wrote_on w (wrote_on (wrote (decimal (get_or cells i 0)) e q) (last there end b f)))
       where

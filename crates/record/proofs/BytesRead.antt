@@ -10,7 +10,7 @@ use lib.Seq.{length-take-le, take-add}
 use Rattle.field.specs.Told.{accepted}
 use Rattle.field.specs.Field.{p}
 use Rattle.field.specs.Lists.{each}
-use Rattle.numbers.proofs.Below.{below-accepted}
+use Rattle.numbers.proofs.Below.{below_accepted}
 use Rattle.trace.specs.declared.RecordHeader.{RecordHeader}
 use Rattle.trace.specs.Outcome.{Lent}
 use Rattle.trace.specs.Output.{header_numbers}
@@ -38,10 +38,10 @@ use Rattle.record.specs.Reading.{
 use Rattle.record.proofs.Bounds.{AllBelow, below_wider, below_append, each_below, part_below}
 use Rattle.record.proofs.Sequence.{Stand, written_stand}
 use Rattle.record.proofs.WireList.{wires-used}
-use Rattle.record.proofs.RecordParts.{wireList, readList, evalList}
+use Rattle.record.proofs.RecordParts.{wire_list, read_list, eval_list}
 use Rattle.record.proofs.Loads.{header_is}
 use Rattle.record.proofs.Tests.{declared_is, ends}
-use Rattle.record.proofs.Fields.{fields-end}
+use Rattle.record.proofs.Fields.{fields_end}
 use Rattle.record.proofs.FieldsFound.{values_in, counts_in, read_cells_in, eval_cells_in}
 use Rattle.record.proofs.FieldsRead.{HeadRead, head_read, ListRead, list_read, LengthsRead, lengths_read, nodes_pass, ReadsRead, reads_read, EvalsRead, evals_read}
 
@@ -82,7 +82,7 @@ module _ (h : RecordHeader) (b : Lent) (r : Recorded h b)
   evals-in : AllBelow p (eval_cells h b)
   evals-in = part_below p (7 * h.num_read) (11 * h.num_eval) b.nodes r.fits.for_nodes r.nodes_in
 
-  wires-in : AllBelow (2 ^ 64) (wireList h b)
+  wires-in : AllBelow (2 ^ 64) (wire_list h b)
   wires-in =
       each_below (2 ^ 64) (wire_numbers b.values b.counts) (record_wires h)
       (λ k l.
@@ -91,19 +91,19 @@ module _ (h : RecordHeader) (b : Lent) (r : Recorded h b)
       (omega arith, (omega arith, (omega (arith, counts-below k), tt))))
 
   abbrev nodeLists : List ℕ
-  nodeLists = record_wires h ∷ readList h b ++ evalList h b
+  nodeLists = record_wires h ∷ read_list h b ++ eval_list h b
 
-  eval-list-in : AllBelow (2 ^ 64) (evalList h b)
+  eval-list-in : AllBelow (2 ^ 64) (eval_list h b)
   eval-list-in = (omega (arith, r.few), below_wider p (2 ^ 64) (eval_cells h b) (omega arith) evals-in)
 
   node-lists-in : AllBelow (2 ^ 64) nodeLists
   node-lists-in =
       let cells = below_wider p (2 ^ 64) (read_cells h b) (omega arith) reads_in_lem in
-      (omega (arith, r.few), (omega (arith, r.few), below_append (2 ^ 64) (read_cells h b) (evalList h b) cells eval-list-in))
+      (omega (arith, r.few), (omega (arith, r.few), below_append (2 ^ 64) (read_cells h b) (eval_list h b) cells eval-list-in))
 
   numbers-in : AllBelow (2 ^ 64) (record_numbers h b)
   numbers-in =
-      let lists = below_append (2 ^ 64) (wireList h b) nodeLists wires-in node-lists-in in
+      let lists = below_append (2 ^ 64) (wire_list h b) nodeLists wires-in node-lists-in in
       (omega arith, (omega arith, (omega (arith, r.id_in), (omega (arith, r.few), lists))))
 
   -- so they stand in the bytes
@@ -142,11 +142,11 @@ module _ (h : RecordHeader) (b : Lent) (r : Recorded h b)
           (omega (arith, n, f.for_values))
           (omega (arith, n, f.for_counts))
 
-      lengths : LengthsRead (record_wires h) h.num_read (read_cells h b ++ evalList h b) s (length s)
-      lengths = lengths_read _ _ (read_cells h b ++ evalList h b) s (length s) list.others
+      lengths : LengthsRead (record_wires h) h.num_read (read_cells h b ++ eval_list h b) s (length s)
+      lengths = lengths_read _ _ (read_cells h b ++ eval_list h b) s (length s) list.others
 
-      reads : ReadsRead (read_cells h b) (evalList h b) s (length s)
-      reads = reads_read (read_cells h b) (evalList h b) s (length s) lengths.others (omega (arith, lengths.reads_are, reads-many))
+      reads : ReadsRead (read_cells h b) (eval_list h b) s (length s)
+      reads = reads_read (read_cells h b) (eval_list h b) s (length s) lengths.others (omega (arith, lengths.reads_are, reads-many))
 
       evals : EvalsRead h.num_eval (eval_cells h b) s (length s)
       evals = evals_read h.num_eval (eval_cells h b) s (length s) reads.others evals-many
@@ -157,7 +157,7 @@ module _ (h : RecordHeader) (b : Lent) (r : Recorded h b)
           let d = lengths.declared_is in
           sym
           (declared_is (wires_in s) s (declared_at s) (declared_in s) (read_list_at s)
-          (below-accepted u32 s (declared_at s) (declared_in s) (read_list_at s) lengths.declared_read (omega (arith, d, r.few)))
+          (below_accepted u32 s (declared_at s) (declared_in s) (read_list_at s) lengths.declared_read (omega (arith, d, r.few)))
           (λ z. omega (arith, d, z, r.some_evals))
           (omega (arith, d, r.few))
           (omega (arith, n, d)))
@@ -187,7 +187,7 @@ module _ (h : RecordHeader) (b : Lent) (r : Recorded h b)
           (omega (arith, n, e, r.few))
           (omega (arith, n, e, lengths.declared_is))
           (omega arith)
-          ∙ fields-end s values counts nodes _ _ head.answer _ _ list.answer _ _ declared-told _ _ reads-told _ _ evals-told)
+          ∙ fields_end s values counts nodes _ _ head.answer _ _ list.answer _ _ declared-told _ _ reads-told _ _ evals-told)
 
 -- what the reader finds in the bytes s, for so many value cells, counts and node cells, is the record of h and b
 pub record BytesRead (h : RecordHeader) (b : Lent) (s : List ℕ) (values counts nodes : ℕ) : Type 0 where
@@ -213,6 +213,6 @@ bytes_read h b r x l c values counts nodes f =
       values_are = ls.values_are;
       counts_are = ls.counts_are;
       nodes_are =
-          ap₂ (λ (y z : List ℕ). y ++ z) rs.read-cells_are es.eval_cells_are
+          ap₂ (λ (y z : List ℕ). y ++ z) rs.read_cells_are es.eval_cells_are
           ∙ sym (take-add (7 * h.num_read) (11 * h.num_eval) b.nodes);
     }

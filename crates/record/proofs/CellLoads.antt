@@ -16,8 +16,8 @@ pub record Loading (s : List ℕ) (at n : ℕ) (old : List ℕ) (from : ℕ) (ce
   pub stored : sets cells (from + i) (numbers_from (n - i) s next) ≡ sets old from (numbers_from n s at)
 
 module _ (s : List ℕ) (at n : ℕ) (old : List ℕ) (from : ℕ) where
-  pub loading-start : Loading s at n old from old at 0
-  loading-start =
+  pub loading_start : Loading s at n old from old at 0
+  loading_start =
       record {
         same = refl;
         place = ap (λ (k : ℕ). after k s at) (sub-zero n);
@@ -25,8 +25,8 @@ module _ (s : List ℕ) (at n : ℕ) (old : List ℕ) (from : ℕ) where
       }
 
   module _ {cells : List ℕ} {next i : ℕ} (l : Loading s at n old from cells next i) where
-    pub loading-next : (v place : ℕ) → v ≡ number_at s next → place ≡ next_at s next → i < n → Loading s at n old from (set cells (from + i) v) place (i + 1)
-    loading-next v place e f h =
+    pub loading_next : (v place : ℕ) → v ≡ number_at s next → place ≡ next_at s next → i < n → Loading s at n old from (set cells (from + i) v) place (i + 1)
+    loading_next v place e f h =
         let m : n - i ≡ suc (n - (i + 1)) = omega arith in
         let j : from + (i + 1) ≡ suc (from + i) = omega arith in
         record {
@@ -39,10 +39,10 @@ module _ (s : List ℕ) (at n : ℕ) (old : List ℕ) (from : ℕ) where
               ∙ l.stored;
         }
 
-    pub loaded-place : n ≤ i → next ≡ after n s at
-    loaded-place h = let z : n - i ≡ 0 = omega arith in sym (after_none s next) ∙ ap (λ (k : ℕ). after k s next) (sym z) ∙ l.place
+    pub loaded_place : n ≤ i → next ≡ after n s at
+    loaded_place h = let z : n - i ≡ 0 = omega arith in sym (after_none s next) ∙ ap (λ (k : ℕ). after k s next) (sym z) ∙ l.place
 
-    pub loaded-cells : n ≤ i → cells ≡ sets old from (numbers_from n s at)
-    loaded-cells h =
+    pub loaded_cells : n ≤ i → cells ≡ sets old from (numbers_from n s at)
+    loaded_cells h =
         let z : n - i ≡ 0 = omega arith in
         ap (sets cells (from + i)) (sym (from_none s next) ∙ ap (λ (k : ℕ). numbers_from k s next) (sym z)) ∙ l.stored

@@ -27,8 +27,8 @@ use Rattle.record.specs.Reading.{
   fields_answer,
 }
 use Rattle.record.proofs.Ways.{goes_on, stops}
-use Rattle.record.proofs.Heads.{length_is, list_at, list-end}
-use Rattle.record.proofs.Tests.{declared-accepted, nodes-of, nodes-accepted}
+use Rattle.record.proofs.Heads.{length_is, list_at, list_end}
+use Rattle.record.proofs.Tests.{declared_accepted, nodes_of, nodes_accepted}
 
 -- what comes behind the READ nodes, the declared count, the wire list and the head
 abbrev behind_reads : List ℕ → ℕ → Told
@@ -45,8 +45,8 @@ behind_head s values counts nodes = or_else (wire_list_answer (wires_in s) s (wi
 
 pub reads_fit : (nodes : ℕ) (s : List ℕ) (at reads next : ℕ) → nodes_answer 0 7 nodes s at ≡ accepted (reads ∷ next ∷ []) → 7 * reads ≤ nodes
 reads_fit nodes s at reads next e =
-    let q = (nodes-accepted 0 7 nodes s at reads next e).0 in
-    omega (arith, q, (nodes-of 0 7 nodes s at (reads ∷ next ∷ []) e).room)
+    let q = (nodes_accepted 0 7 nodes s at reads next e).0 in
+    omega (arith, q, (nodes_of 0 7 nodes s at (reads ∷ next ∷ []) e).room)
 
 module _ (s : List ℕ) (values counts nodes : ℕ) where
   pub off_head : (number place : ℕ) → head_answer s ≡ refused number place → refused number place ≡ fields_answer s values counts nodes
@@ -70,13 +70,13 @@ module _ (s : List ℕ) (values counts nodes : ℕ) where
 
       declared-at-is : declared-at ≡ declared_at s
       unfolding declared_at
-      declared-at-is = list-end n s at values counts v declared-at e₂ ∙ ap₂ (λ (x y : ℕ). after (3 * x) s y) (length_is s n at e₁) (list_at s n at e₁)
+      declared-at-is = list_end n s at values counts v declared-at e₂ ∙ ap₂ (λ (x y : ℕ). after (3 * x) s y) (length_is s n at e₁) (list_at s n at e₁)
 
       declared-here : declared_answer (wires_in s) s (declared_at s) ≡ declared_answer n s declared-at
       declared-here = sym (ap₂ (λ (x y : ℕ). declared_answer x s y) (length_is s n at e₁) declared-at-is)
 
-      pub off-declared : (number place : ℕ) → declared_answer n s declared-at ≡ refused number place → refused number place ≡ fields_answer s values counts nodes
-      off-declared k q e = sym (stops _ (behind_declared s nodes) k q (declared-here ∙ e)) ∙ past-list
+      pub off_declared : (number place : ℕ) → declared_answer n s declared-at ≡ refused number place → refused number place ≡ fields_answer s values counts nodes
+      off_declared k q e = sym (stops _ (behind_declared s nodes) k q (declared-here ∙ e)) ∙ past-list
 
       module _ (d reads_place : ℕ) (e₃ : declared_answer n s declared-at ≡ accepted (d ∷ reads_place ∷ [])) where
         past-declared : behind_declared s nodes ≡ fields_answer s values counts nodes
@@ -84,50 +84,50 @@ module _ (s : List ℕ) (values counts nodes : ℕ) where
 
         declared_is : d ≡ declared_in s
         unfolding declared_in
-        declared_is = (declared-accepted (wires_in s) s (declared_at s) d reads_place (declared-here ∙ e₃)).0
+        declared_is = (declared_accepted (wires_in s) s (declared_at s) d reads_place (declared-here ∙ e₃)).0
 
         reads-at-is : reads_place ≡ read_list_at s
         unfolding read_list_at
-        reads-at-is = (declared-accepted (wires_in s) s (declared_at s) d reads_place (declared-here ∙ e₃)).1
+        reads-at-is = (declared_accepted (wires_in s) s (declared_at s) d reads_place (declared-here ∙ e₃)).1
 
         reads_here : nodes_answer 0 7 nodes s (read_list_at s) ≡ nodes_answer 0 7 nodes s reads_place
         reads_here = sym (ap (nodes_answer 0 7 nodes s) reads-at-is)
 
-        pub off-reads : (number place : ℕ) → nodes_answer 0 7 nodes s reads_place ≡ refused number place → refused number place ≡ fields_answer s values counts nodes
-        off-reads k q e = sym (stops _ (behind_reads s nodes) k q (reads_here ∙ e)) ∙ past-declared
+        pub off_reads : (number place : ℕ) → nodes_answer 0 7 nodes s reads_place ≡ refused number place → refused number place ≡ fields_answer s values counts nodes
+        off_reads k q e = sym (stops _ (behind_reads s nodes) k q (reads_here ∙ e)) ∙ past-declared
 
-        module _ (r evals-at : ℕ) (e₄ : nodes_answer 0 7 nodes s reads_place ≡ accepted (r ∷ evals-at ∷ [])) where
+        module _ (r evals_at_lem : ℕ) (e₄ : nodes_answer 0 7 nodes s reads_place ≡ accepted (r ∷ evals_at_lem ∷ [])) where
           past-reads : behind_reads s nodes ≡ fields_answer s values counts nodes
-          past-reads = sym (goes_on _ (behind_reads s nodes) (r ∷ evals-at ∷ []) (reads_here ∙ e₄)) ∙ past-declared
+          past-reads = sym (goes_on _ (behind_reads s nodes) (r ∷ evals_at_lem ∷ []) (reads_here ∙ e₄)) ∙ past-declared
 
           reads_are : r ≡ reads_in s
           unfolding reads_in
-          reads_are = (nodes-accepted 0 7 nodes s (read_list_at s) r evals-at (reads_here ∙ e₄)).0
+          reads_are = (nodes_accepted 0 7 nodes s (read_list_at s) r evals_at_lem (reads_here ∙ e₄)).0
 
-          evals-at-is : evals-at ≡ eval_list_at s
+          evals-at-is : evals_at_lem ≡ eval_list_at s
           unfolding eval_list_at reads_in reads_at
-          evals-at-is = (nodes-accepted 0 7 nodes s (read_list_at s) r evals-at (reads_here ∙ e₄)).1
+          evals-at-is = (nodes_accepted 0 7 nodes s (read_list_at s) r evals_at_lem (reads_here ∙ e₄)).1
 
-          evals-here : nodes_answer (7 * reads_in s) 11 nodes s (eval_list_at s) ≡ nodes_answer (7 * r) 11 nodes s evals-at
+          evals-here : nodes_answer (7 * reads_in s) 11 nodes s (eval_list_at s) ≡ nodes_answer (7 * r) 11 nodes s evals_at_lem
           evals-here = sym (ap₂ (λ (x y : ℕ). nodes_answer (7 * x) 11 nodes s y) reads_are evals-at-is)
 
-          pub off-evals : (number place : ℕ) → nodes_answer (7 * r) 11 nodes s evals-at ≡ refused number place → refused number place ≡ fields_answer s values counts nodes
-          off-evals k q e = sym (stops _ (end_answer (reads_in s) (evals_in s) (declared_in s) (end_at s) (length s)) k q (evals-here ∙ e)) ∙ past-reads
+          pub off_evals : (number place : ℕ) → nodes_answer (7 * r) 11 nodes s evals_at_lem ≡ refused number place → refused number place ≡ fields_answer s values counts nodes
+          off_evals k q e = sym (stops _ (end_answer (reads_in s) (evals_in s) (declared_in s) (end_at s) (length s)) k q (evals-here ∙ e)) ∙ past-reads
 
-          module _ (x end : ℕ) (e₅ : nodes_answer (7 * r) 11 nodes s evals-at ≡ accepted (x ∷ end ∷ [])) where
+          module _ (x end : ℕ) (e₅ : nodes_answer (7 * r) 11 nodes s evals_at_lem ≡ accepted (x ∷ end ∷ [])) where
             past-evals : end_answer (reads_in s) (evals_in s) (declared_in s) (end_at s) (length s) ≡ fields_answer s values counts nodes
             past-evals = sym (goes_on _ (end_answer (reads_in s) (evals_in s) (declared_in s) (end_at s) (length s)) (x ∷ end ∷ []) (evals-here ∙ e₅)) ∙ past-reads
 
             evals_are : x ≡ evals_in s
             unfolding evals_in
-            evals_are = (nodes-accepted (7 * reads_in s) 11 nodes s (eval_list_at s) x end (evals-here ∙ e₅)).0
+            evals_are = (nodes_accepted (7 * reads_in s) 11 nodes s (eval_list_at s) x end (evals-here ∙ e₅)).0
 
             end_is : end ≡ end_at s
             unfolding end_at evals_in evals_at
-            end_is = (nodes-accepted (7 * reads_in s) 11 nodes s (eval_list_at s) x end (evals-here ∙ e₅)).1
+            end_is = (nodes_accepted (7 * reads_in s) 11 nodes s (eval_list_at s) x end (evals-here ∙ e₅)).1
 
-            pub fields-end : end_answer r x d end (length s) ≡ fields_answer s values counts nodes
-            fields-end =
+            pub fields_end : end_answer r x d end (length s) ≡ fields_answer s values counts nodes
+            fields_end =
                 ap₂ (λ (i j : ℕ). end_answer i j d end (length s)) reads_are evals_are
                 ∙ ap₂ (λ (i j : ℕ). end_answer (reads_in s) (evals_in s) i j (length s)) declared_is end_is
                 ∙ past-evals

@@ -43,7 +43,7 @@ use Rattle.record.proofs.Bounds.{AllBelow}
 use Rattle.record.proofs.Sequence.{Stand, stand_join}
 use Rattle.record.proofs.WireList.{WiresFound, wires_of_lem}
 use Rattle.record.proofs.Heads.{head_of, list_of}
-use Rattle.record.proofs.Tests.{declared-of, nodes-of, end_of}
+use Rattle.record.proofs.Tests.{declared_of, nodes_of, end_of}
 
 -- the lists that stand in bytes
 abbrev pub values_in : List ℕ → List ℕ
@@ -94,9 +94,9 @@ fields_of s values counts nodes vs e =
     let head = head_of s a.values a.first in
     let room = list_of (wires_in s) s (wires_at s) values counts b.values b.first in
     let list = wires_of_lem (wires_in s) s (wires_at s) b.values room.2 in
-    let declared = declared-of (wires_in s) s (declared_at s) c.values c.first in
-    let reads = nodes-of 0 7 nodes s (read_list_at s) d.values d.first in
-    let evals = nodes-of (7 * reads_in s) 11 nodes s (eval_list_at s) f.values f.first in
+    let declared = declared_of (wires_in s) s (declared_at s) c.values c.first in
+    let reads = nodes_of 0 7 nodes s (read_list_at s) d.values d.first in
+    let evals = nodes_of (7 * reads_in s) 11 nodes s (eval_list_at s) f.values f.first in
     let end = end_of (reads_in s) (evals_in s) (declared_in s) (end_at s) (length s) vs f.then in
     let same : wires_in s ≡ declared_in s = declared.same in
     let most : declared_in s ≤ most_record_wires = declared.few in

@@ -33,9 +33,9 @@ use Rattle.record.specs.Reading.{
 use Rattle.record.proofs.Places.{number_is, read_of}
 use Rattle.record.proofs.Bounds.{AllBelow}
 use Rattle.record.proofs.Sequence.{Stand, stand_from, stand_split_at}
-use Rattle.record.proofs.Numbers.{numbers-pass}
+use Rattle.record.proofs.Numbers.{numbers_pass}
 use Rattle.record.proofs.WireList.{wires-length, wires-read}
-use Rattle.record.proofs.Heads.{head-is, list-fits}
+use Rattle.record.proofs.Heads.{head_is, list-fits}
 use Rattle.record.proofs.Tests.{nodes_are}
 use Rattle.record.proofs.FieldsFound.{values_in, counts_in, read_cells_in, eval_cells_in}
 
@@ -63,8 +63,8 @@ head_read ctx clk id n rest s end h lx ll li =
       others = h₃.1;
       answer =
           sym
-          (head-is s 0 (after 2 s 0) (numbers-pass u32 s (ctx ∷ clk ∷ []) 0 (after 2 s 0) (h.0, (h₁.0, refl)) (lx, (ll, tt)))
-          0 (after 3 s 0) (numbers-pass p s (id ∷ []) (after 2 s 0) (after 3 s 0) (h₂.0, refl) (li, tt)))
+          (head_is s 0 (after 2 s 0) (numbers_pass u32 s (ctx ∷ clk ∷ []) 0 (after 2 s 0) (h.0, (h₁.0, refl)) (lx, (ll, tt)))
+          0 (after 3 s 0) (numbers_pass p s (id ∷ []) (after 2 s 0) (after 3 s 0) (h₂.0, refl) (li, tt)))
           ∙ read_of s (after 3 s 0) (n ∷ after 4 s 0 ∷ []) h₃.0;
     }
 
@@ -113,10 +113,10 @@ pub nodes_pass : (used width nodes n : ℕ) (xs s : List ℕ) (at cells_at end :
 nodes_pass used width nodes n xs s at cells_at end e h b l room =
     sym
     (nodes_are used width nodes s at n cells_at e room 0 end
-    (ap (λ (k : ℕ). numbers_answer p k s cells_at) (sym l) ∙ numbers-pass p s xs cells_at end h b))
+    (ap (λ (k : ℕ). numbers_answer p k s cells_at) (sym l) ∙ numbers_pass p s xs cells_at end h b))
 
 pub record ReadsRead (rc rest s : List ℕ) (end : ℕ) : Type 0 where
-  pub read-cells_are : read_cells_in s ≡ rc
+  pub read_cells_are : read_cells_in s ≡ rc
   pub stand : Stand rc s (reads_at s) (eval_list_at s)
   pub others : Stand rest s (eval_list_at s) end
 
@@ -125,7 +125,7 @@ unfolding eval_list_at
 reads_read rc rest s end h l =
     let g = stand_split_at (7 * reads_in s) rc rest s (reads_at s) (eval_list_at s) end l refl h in
     record {
-      read-cells_are = ap (λ (k : ℕ). numbers_from k s (reads_at s)) (sym l) ∙ stand_from rc s (reads_at s) (eval_list_at s) g.0;
+      read_cells_are = ap (λ (k : ℕ). numbers_from k s (reads_at s)) (sym l) ∙ stand_from rc s (reads_at s) (eval_list_at s) g.0;
       stand = g.0;
       others = g.1;
     }

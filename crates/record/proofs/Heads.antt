@@ -19,9 +19,9 @@ use Rattle.record.proofs.Numbers.{numbers_of, place_after, place_behind}
 use Rattle.record.proofs.WireList.{wires_accepted}
 
 module _ (s : List ℕ) where
-  pub head-off : (number place : ℕ) → numbers_answer u32 2 s 0 ≡ refused number place → refused number place ≡ head_answer s
+  pub head_off : (number place : ℕ) → numbers_answer u32 2 s 0 ≡ refused number place → refused number place ≡ head_answer s
   unfolding head_answer
-  head-off n k e = sym (stops _ (or_else (numbers_answer p 1 s (after 2 s 0)) (read_answer s (after 3 s 0))) n k e)
+  head_off n k e = sym (stops _ (or_else (numbers_answer p 1 s (after 2 s 0)) (read_answer s (after 3 s 0))) n k e)
 
   module _ (v at : ℕ) (e : numbers_answer u32 2 s 0 ≡ accepted (v ∷ at ∷ [])) where
     id-next-first : or_else (numbers_answer p 1 s (after 2 s 0)) (read_answer s (after 3 s 0)) ≡ head_answer s
@@ -31,11 +31,11 @@ module _ (s : List ℕ) where
     at-is : at ≡ after 2 s 0
     at-is = place_after u32 s 2 0 v at e
 
-    pub id-next-off : (number place : ℕ) → numbers_answer p 1 s at ≡ refused number place → refused number place ≡ head_answer s
-    id-next-off n k f = sym (stops _ (read_answer s (after 3 s 0)) n k (ap (numbers_answer p 1 s) (sym at-is) ∙ f)) ∙ id-next-first
+    pub id_next_off : (number place : ℕ) → numbers_answer p 1 s at ≡ refused number place → refused number place ≡ head_answer s
+    id_next_off n k f = sym (stops _ (read_answer s (after 3 s 0)) n k (ap (numbers_answer p 1 s) (sym at-is) ∙ f)) ∙ id-next-first
 
-    pub head-is : (w next : ℕ) → numbers_answer p 1 s at ≡ accepted (w ∷ next ∷ []) → read_answer s next ≡ head_answer s
-    head-is w next f =
+    pub head_is : (w next : ℕ) → numbers_answer p 1 s at ≡ accepted (w ∷ next ∷ []) → read_answer s next ≡ head_answer s
+    head_is w next f =
         ap (read_answer s) (place_behind u32 p s 2 1 0 v at w next e f)
         ∙ sym (goes_on _ (read_answer s (after 3 s 0)) (w ∷ next ∷ []) (ap (numbers_answer p 1 s) (sym at-is) ∙ f))
         ∙ id-next-first
@@ -71,13 +71,13 @@ pub list_at : (s : List ℕ) (n at : ℕ) → head_answer s ≡ accepted (n ∷ 
 list_at s n at e = (values_are (wires_in s) (wires_at s) n at (head_of s (n ∷ at ∷ []) e).answer).1
 
 module _ (n : ℕ) (s : List ℕ) (at values counts : ℕ) where
-  pub few-values : values / 2 < n → refused 24 0 ≡ wire_list_answer n s at values counts
+  pub few_values : values / 2 < n → refused 24 0 ≡ wire_list_answer n s at values counts
   unfolding wire_list_answer
-  few-values h = rw (first_fails (leb (2 * n) values) (leb n counts) (lt-leb (2 * n) values (omega arith)))
+  few_values h = rw (first_fails (leb (2 * n) values) (leb n counts) (lt-leb (2 * n) values (omega arith)))
 
-  pub few-counts : counts < n → refused 24 0 ≡ wire_list_answer n s at values counts
+  pub few_counts : counts < n → refused 24 0 ≡ wire_list_answer n s at values counts
   unfolding wire_list_answer
-  few-counts h = rw (second_fails (leb (2 * n) values) (leb n counts) (lt-leb n counts h))
+  few_counts h = rw (second_fails (leb (2 * n) values) (leb n counts) (lt-leb n counts h))
 
   pub list-fits : 2 * n ≤ values → n ≤ counts → wires_answer n s at ≡ wire_list_answer n s at values counts
   unfolding wire_list_answer
@@ -90,7 +90,7 @@ module _ (n : ℕ) (s : List ℕ) (at values counts : ℕ) where
       let b = both (leb (2 * n) values) (leb n counts) a.0 in
       (leb-true _ _ b.0, leb-true _ _ b.1, a.1)
 
-  pub list-end : (v next : ℕ) → wire_list_answer n s at values counts ≡ accepted (v ∷ next ∷ []) → next ≡ after (3 * n) s at
-  list-end v next e =
+  pub list_end : (v next : ℕ) → wire_list_answer n s at values counts ≡ accepted (v ∷ next ∷ []) → next ≡ after (3 * n) s at
+  list_end v next e =
       let a = (list_of (v ∷ next ∷ []) e).2 in
       (values_are 0 (after (3 * n) s at) v next (sym (wires_accepted n s at (v ∷ next ∷ []) a) ∙ a)).1

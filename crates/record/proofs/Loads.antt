@@ -16,8 +16,8 @@ use Rattle.trace.proofs.Answers.{lent_equal}
 
 -- both lists of nodes
 module _ (s : List ℕ) (at : ℕ) where
-  pub evals-at : (reads next place : ℕ) → reads ≡ number_at s at → next ≡ next_at s at → place ≡ after (7 * reads) s next → place ≡ eval_list_from s at
-  evals-at reads next place e f g = g ∙ ap₂ (λ (x y : ℕ). after (7 * x) s y) e f
+  pub evals_at_lem : (reads next place : ℕ) → reads ≡ number_at s at → next ≡ next_at s at → place ≡ after (7 * reads) s next → place ≡ eval_list_from s at
+  evals_at_lem reads next place e f g = g ∙ ap₂ (λ (x y : ℕ). after (7 * x) s y) e f
 
   pub nodes-stored : (reads next evals cells_at : ℕ) (old mid new : List ℕ) → mid ≡ sets old 0 (numbers_from (7 * reads) s next) → new ≡ sets mid (7 * reads) (numbers_from (11 * evals) s cells_at)
       → reads ≡ number_at s at → next ≡ next_at s at → evals ≡ number_at s (eval_list_from s at) → cells_at ≡ next_at s (eval_list_from s at)
@@ -49,17 +49,17 @@ module _ (s : List ℕ) (at₁ at₂ at₃ : ℕ) (f₁ : at₁ ≡ next_at s 0)
   unfolding clk_in
   clk_is v e = e ∙ ap (number_at s) first
 
-  pub id-next-is : (v : ℕ) → v ≡ number_at s at₂ → v ≡ id_next_in s
+  pub id_next_is : (v : ℕ) → v ≡ number_at s at₂ → v ≡ id_next_in s
   unfolding id_next_in
-  id-next-is v e = e ∙ ap (number_at s) second
+  id_next_is v e = e ∙ ap (number_at s) second
 
   pub wires_are : (v : ℕ) → v ≡ number_at s at₃ → v ≡ wires_in s
   unfolding wires_in
   wires_are v e = e ∙ ap (number_at s) third
 
-  pub wires-at : (place : ℕ) → place ≡ next_at s at₃ → place ≡ wires_at s
+  pub wires_at_lem : (place : ℕ) → place ≡ next_at s at₃ → place ≡ wires_at s
   unfolding wires_at after
-  wires-at place e = e ∙ ap (next_at s) third
+  wires_at_lem place e = e ∙ ap (next_at s) third
 
 pub ctx_is : (s : List ℕ) (v : ℕ) → v ≡ number_at s 0 → v ≡ ctx_in s
 unfolding ctx_in
@@ -67,13 +67,13 @@ ctx_is s v e = e
 
 -- behind the wires
 module _ (s : List ℕ) where
-  pub read-list-at : (n at declared-at place : ℕ) → n ≡ wires_in s → at ≡ wires_at s → declared-at ≡ after (3 * n) s at → place ≡ next_at s declared-at → place ≡ read_list_at s
+  pub read_list_at_lem : (n at declared-at place : ℕ) → n ≡ wires_in s → at ≡ wires_at s → declared-at ≡ after (3 * n) s at → place ≡ next_at s declared-at → place ≡ read_list_at s
   unfolding read_list_at declared_at
-  read-list-at n at declared-at place e f g h = h ∙ ap (next_at s) (g ∙ ap₂ (λ (x y : ℕ). after (3 * x) s y) e f)
+  read_list_at_lem n at declared-at place e f g h = h ∙ ap (next_at s) (g ∙ ap₂ (λ (x y : ℕ). after (3 * x) s y) e f)
 
-  pub node-cells : (at : ℕ) → at ≡ read_list_at s → node_cells_from s at ≡ 7 * reads_in s + 11 * evals_in s
+  pub node_cells : (at : ℕ) → at ≡ read_list_at s → node_cells_from s at ≡ 7 * reads_in s + 11 * evals_in s
   unfolding reads_in reads_at eval_list_at evals_in
-  node-cells at e = ap (node_cells_from s) e
+  node_cells at e = ap (node_cells_from s) e
 
   pub reads_are : (at v : ℕ) → at ≡ read_list_at s → v ≡ number_at s at → v ≡ reads_in s
   unfolding reads_in

@@ -7,10 +7,10 @@ use native.Mathlib.Omega.{arith}
 use lib.ListN.{length}
 use Rattle.field.specs.Told.{Told, accepted, refused, or_else}
 use Rattle.numbers.specs.Answer.{read_below_answer}
-use Rattle.numbers.proofs.Below.{below-accepted, below_is_read}
+use Rattle.numbers.proofs.Below.{below_accepted, below_is_read}
 use Rattle.record.specs.Numbers.{next_at, after, numbers_from, numbers_answer}
 use Rattle.record.proofs.Ways.{values_are, goes_on, stops, passed}
-use Rattle.record.proofs.Places.{next-is, below_of, after_add, length_from}
+use Rattle.record.proofs.Places.{next_is, below_of, after_add, length_from}
 use Rattle.record.proofs.Bounds.{AllBelow}
 use Rattle.record.proofs.Sequence.{Stand}
 
@@ -31,7 +31,7 @@ module _ (bound : ℕ) (s : List ℕ) where
   one_more n at v next e =
       more n at
       ∙ goes_on _ (numbers_answer bound n s (next_at s at)) (v ∷ next ∷ []) e
-      ∙ ap (numbers_answer bound n s) (sym (next-is s at v next (below_is_read bound s at v next e).read))
+      ∙ ap (numbers_answer bound n s) (sym (next_is s at v next (below_is_read bound s at v next e).read))
 
   one-refused : (n at number place : ℕ) → read_below_answer bound s at ≡ refused number place → numbers_answer bound (suc n) s at ≡ refused number place
   one-refused n at number place e = more n at ∙ stops _ (numbers_answer bound n s (next_at s at)) number place e
@@ -43,13 +43,13 @@ module _ (bound : ℕ) (s : List ℕ) where
         let k : n - i ≡ suc (n - (i + 1)) = omega arith in
         sym (one_more (n - (i + 1)) next v place e) ∙ ap (λ (m : ℕ). numbers_answer bound m s next) (sym k) ∙ q
 
-    pub numbers-off : (number place : ℕ) → read_below_answer bound s next ≡ refused number place → numbers_answer bound (n - i) s next ≡ t → i < n → refused number place ≡ t
-    numbers-off number place e q h =
+    pub numbers_off : (number place : ℕ) → read_below_answer bound s next ≡ refused number place → numbers_answer bound (n - i) s next ≡ t → i < n → refused number place ≡ t
+    numbers_off number place e q h =
         let k : n - i ≡ suc (n - (i + 1)) = omega arith in
         sym (one-refused (n - (i + 1)) next number place e) ∙ ap (λ (m : ℕ). numbers_answer bound m s next) (sym k) ∙ q
 
-    pub numbers-end : numbers_answer bound (n - i) s next ≡ t → n ≤ i → accepted (0 ∷ next ∷ []) ≡ t
-    numbers-end q h =
+    pub numbers_end : numbers_answer bound (n - i) s next ≡ t → n ≤ i → accepted (0 ∷ next ∷ []) ≡ t
+    numbers_end q h =
         let k : n - i ≡ 0 = omega arith in
         sym (none next) ∙ ap (λ (m : ℕ). numbers_answer bound m s next) (sym k) ∙ q
 
@@ -64,16 +64,16 @@ module _ (bound : ℕ) (s : List ℕ) where
       ((f.0, r.0), (f.1, r.1))
 
   -- and numbers of which that is known are accepted
-  pub numbers-pass : (xs : List ℕ) (at end : ℕ) → Stand xs s at end → AllBelow bound xs → numbers_answer bound (length xs) s at ≡ accepted (0 ∷ end ∷ [])
-  numbers-pass [] at end h b = none at ∙ ap (λ (k : ℕ). accepted (0 ∷ k ∷ [])) h
-  numbers-pass (x ∷ xs) at end h b =
-      one_more (length xs) at x (next_at s at) (below-accepted bound s at x (next_at s at) h.0 b.0)
-      ∙ numbers-pass xs (next_at s at) end h.1 b.1
+  pub numbers_pass : (xs : List ℕ) (at end : ℕ) → Stand xs s at end → AllBelow bound xs → numbers_answer bound (length xs) s at ≡ accepted (0 ∷ end ∷ [])
+  numbers_pass [] at end h b = none at ∙ ap (λ (k : ℕ). accepted (0 ∷ k ∷ [])) h
+  numbers_pass (x ∷ xs) at end h b =
+      one_more (length xs) at x (next_at s at) (below_accepted bound s at x (next_at s at) h.0 b.0)
+      ∙ numbers_pass xs (next_at s at) end h.1 b.1
 
   pub place_after : (n at v next : ℕ) → numbers_answer bound n s at ≡ accepted (v ∷ next ∷ []) → next ≡ after n s at
   place_after n at v next e =
       let f = numbers_of n at (v ∷ next ∷ []) e in
-      let q = ap (λ (k : ℕ). numbers_answer bound k s at) (sym (length_from n s at)) ∙ numbers-pass (numbers_from n s at) at (after n s at) f.0 f.1 in
+      let q = ap (λ (k : ℕ). numbers_answer bound k s at) (sym (length_from n s at)) ∙ numbers_pass (numbers_from n s at) at (after n s at) f.0 f.1 in
       (values_are 0 (after n s at) v next (sym q ∙ e)).1
 
 -- numbers behind numbers end where all of them end

@@ -20,17 +20,17 @@ module _ (s : List ℕ) (at : ℕ) where
   unfolding number_at
   number_is v next e = ap number_told (sym e)
 
-  pub next-is : (v next : ℕ) → read_answer s at ≡ accepted (v ∷ next ∷ []) → next ≡ next_at s at
+  pub next_is : (v next : ℕ) → read_answer s at ≡ accepted (v ∷ next ∷ []) → next ≡ next_at s at
   unfolding next_at
-  next-is v next e = ap (next_told at) (sym e)
+  next_is v next e = ap (next_told at) (sym e)
 
   pub no_number : (number place : ℕ) → read_answer s at ≡ refused number place → 0 ≡ number_at s at
   unfolding number_at
   no_number n k e = ap number_told (sym e)
 
-  pub no-next : (number place : ℕ) → read_answer s at ≡ refused number place → at ≡ next_at s at
+  pub no_next : (number place : ℕ) → read_answer s at ≡ refused number place → at ≡ next_at s at
   unfolding next_at
-  no-next n k e = ap (next_told at) (sym e)
+  no_next n k e = ap (next_told at) (sym e)
 
   -- a number that is accepted, and one that is accepted below a bound
   pub read_of : (vs : List ℕ) → read_answer s at ≡ accepted vs → read_answer s at ≡ accepted (number_at s at ∷ next_at s at ∷ [])

@@ -12,12 +12,12 @@ use Rattle.trace.specs.Outcome.{Lent}
 use Rattle.trace.specs.Output.{header_numbers, header_of}
 use Rattle.trace.specs.Record.{record_wires, record_cells}
 use Rattle.trace.proofs.Tests.{Fits}
-use Rattle.trace.proofs.Records.{Recorded, finalized-of}
+use Rattle.trace.proofs.Records.{Recorded, finalized_of}
 use Rattle.record.specs.Bytes.{record_bytes, write_into_answer, written_into, write_state_answer, written_state}
 use Rattle.record.specs.Reading.{read_from_answer, read_buffers}
 use Rattle.record.proofs.FieldsFound.{record_in_lem}
 use Rattle.record.proofs.Standing.{header-answered, leaves}
-use Rattle.record.proofs.RecordWriting.{write-left, state-left}
+use Rattle.record.proofs.RecordWriting.{write_left, state_left}
 use Rattle.record.proofs.Used.{front_set}
 use Rattle.record.proofs.Writer.{written_of}
 use Rattle.record.proofs.BytesRead.{BytesRead, bytes_read}
@@ -82,5 +82,5 @@ pub state_reads_back : (s : CircuitEvaluation) (b : Lent) (out vs : List ℕ) �
     → (written_state s b out ≡ written_into (header_of s) b out) × ReadsBack (header_of s) b out vs
 unfolding write_state_answer
 state_reads_back s b out vs e x l c =
-    let f = finalized-of s (write_into_answer (header_of s) b out) vs e in
-    (sym (state-left s b out (accepted vs) (sym e)) ∙ write-left (header_of s) b out (accepted vs) (sym f.2), reads_back (header_of s) b out vs f.2 x l c)
+    let f = finalized_of s (write_into_answer (header_of s) b out) vs e in
+    (sym (state_left s b out (accepted vs) (sym e)) ∙ write_left (header_of s) b out (accepted vs) (sym f.2), reads_back (header_of s) b out vs f.2 x l c)

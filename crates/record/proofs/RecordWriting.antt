@@ -33,35 +33,35 @@ bytes_over bytes out h = rw (lt-leb (length bytes) (length out) h)
 
 module _ (h : RecordHeader) (b : Lent) (out : List ℕ) where
   -- what is left after an answer
-  pub write-left : (t : Told) → t ≡ write_into_answer h b out → changed t (sets out 0 (record_bytes h b)) out ≡ written_into h b out
-  write-left t e = ap (λ (x : Told). changed x (sets out 0 (record_bytes h b)) out) e
+  pub write_left : (t : Told) → t ≡ write_into_answer h b out → changed t (sets out 0 (record_bytes h b)) out ≡ written_into h b out
+  write_left t e = ap (λ (x : Told). changed x (sets out 0 (record_bytes h b)) out) e
 
-  pub write-stops : (number place : ℕ) → refused number place ≡ of_record h b (accepted []) → refused number place ≡ write_into_answer h b out
+  pub write_stops : (number place : ℕ) → refused number place ≡ of_record h b (accepted []) → refused number place ≡ write_into_answer h b out
   unfolding write_into_answer
-  write-stops number place e = record_stops h b (of_bytes (record_bytes h b) out) number place e
+  write_stops number place e = record_stops h b (of_bytes (record_bytes h b) out) number place e
 
   module _ (passed : accepted [] ≡ of_record h b (accepted [])) where
     goes : of_bytes (record_bytes h b) out ≡ write_into_answer h b out
     unfolding write_into_answer
     goes = record_goes h b (of_bytes (record_bytes h b) out) passed
 
-    pub write-over : (width : ℕ) → width ≡ length (record_bytes h b) → length out < width → refused 24 0 ≡ write_into_answer h b out
-    write-over width e l = sym (bytes_over (record_bytes h b) out (rw (sym e) l)) ∙ goes
+    pub write_over : (width : ℕ) → width ≡ length (record_bytes h b) → length out < width → refused 24 0 ≡ write_into_answer h b out
+    write_over width e l = sym (bytes_over (record_bytes h b) out (rw (sym e) l)) ∙ goes
 
     module _ (width : ℕ) (e : width ≡ length (record_bytes h b)) (l : width ≤ length out) where
       pub write_goes : accepted (width ∷ []) ≡ write_into_answer h b out
       write_goes = ap (λ (n : ℕ). accepted (n ∷ [])) e ∙ sym (bytes_fit (record_bytes h b) out (rw (sym e) l)) ∙ goes
 
-      pub write-leaves : (left : List ℕ) → left ≡ sets out 0 (record_bytes h b) → left ≡ written_into h b out
-      write-leaves left q = q ∙ write-left (accepted (width ∷ [])) write_goes
+      pub write_leaves : (left : List ℕ) → left ≡ sets out 0 (record_bytes h b) → left ≡ written_into h b out
+      write_leaves left q = q ∙ write_left (accepted (width ∷ [])) write_goes
 
 module _ (s : CircuitEvaluation) (b : Lent) (out : List ℕ) where
-  pub state-left : (t : Told) → t ≡ write_state_answer s b out → changed t (sets out 0 (record_bytes (header_of s) b)) out ≡ written_state s b out
-  state-left t e = ap (λ (x : Told). changed x (sets out 0 (record_bytes (header_of s) b)) out) e
+  pub state_left : (t : Told) → t ≡ write_state_answer s b out → changed t (sets out 0 (record_bytes (header_of s) b)) out ≡ written_state s b out
+  state_left t e = ap (λ (x : Told). changed x (sets out 0 (record_bytes (header_of s) b)) out) e
 
-  pub state-stops : (number place : ℕ) → refused number place ≡ finalized_answer s → refused number place ≡ write_state_answer s b out
+  pub state_stops : (number place : ℕ) → refused number place ≡ finalized_answer s → refused number place ≡ write_state_answer s b out
   unfolding write_state_answer
-  state-stops number place e = finalized_stops s (header_numbers (header_of s)) (write_into_answer (header_of s) b out) number place e
+  state_stops number place e = finalized_stops s (header_numbers (header_of s)) (write_into_answer (header_of s) b out) number place e
 
   module _ (h : RecordHeader) (e : accepted (header_numbers h) ≡ finalized_answer s) where
     state-goes : write_into_answer h b out ≡ write_state_answer s b out
@@ -70,9 +70,9 @@ module _ (s : CircuitEvaluation) (b : Lent) (out : List ℕ) where
         ap (λ (k : RecordHeader). write_into_answer k b out) (finalized_header h s e)
         ∙ finalized_goes s (header_numbers (header_of s)) (header_numbers h) (write_into_answer (header_of s) b out) e
 
-    pub state-answer : (t : Told) → t ≡ write_into_answer h b out → t ≡ write_state_answer s b out
-    state-answer t q = q ∙ state-goes
+    pub state_answer : (t : Told) → t ≡ write_into_answer h b out → t ≡ write_state_answer s b out
+    state_answer t q = q ∙ state-goes
 
-    pub state-leaves : (left : List ℕ) → left ≡ written_into h b out → left ≡ written_state s b out
-    state-leaves left q =
+    pub state_leaves : (left : List ℕ) → left ≡ written_into h b out → left ≡ written_state s b out
+    state_leaves left q =
         q ∙ ap₂ (λ (t : Told) (k : RecordHeader). changed t (sets out 0 (record_bytes k b)) out) state-goes (finalized_header h s e)

@@ -14,7 +14,7 @@ use Rattle.numbers.proofs.RoundTrip.{written_is_read, read_is_written, Read, Byt
 use Rattle.record.specs.Bytes.{bytes_of_all}
 use Rattle.record.specs.Numbers.{next_at, after, numbers_from}
 use Rattle.record.proofs.Bounds.{AllBelow}
-use Rattle.record.proofs.Places.{number_is, next-is, after_none, after_more, from_none, from_more}
+use Rattle.record.proofs.Places.{number_is, next_is, after_none, after_more, from_none, from_more}
 use Rattle.record.proofs.Widths.{bytes_none, bytes_more, taken_none, taken_more}
 
 -- the numbers xs are read from s one after the other, the first at a place, and end is the place after the last
@@ -36,7 +36,7 @@ written_stand (x ∷ xs) s before rest at end b es ea ee =
     ap₂ read_answer q ea
     ∙ written_is_read before (bytes_of_all xs ++ rest) x b.0
     ∙ ap (λ (k : ℕ). accepted (x ∷ (k + width_of x) ∷ [])) (sym ea) in
-    let n = next-is s at x (at + width_of x) r in
+    let n = next_is s at x (at + width_of x) r in
     let w = width_counts x in
     let l = length-append before (bytes_of x) in
     let m = taken_more x xs in (

@@ -39,9 +39,9 @@ module _ (s : List ℕ) (b : Lent) where
   abbrev looked : Told
   looked = fields_answer s (length b.values) (length b.counts) (length b.nodes)
 
-  pub refusal-answered : (number place : ℕ) → looked ≡ refused number place → refused number place ≡ read_from_answer s b
+  pub refusal_answered : (number place : ℕ) → looked ≡ refused number place → refused number place ≡ read_from_answer s b
   unfolding read_from_answer
-  refusal-answered n k e = sym (stops _ (accepted (header_in s)) n k e)
+  refusal_answered n k e = sym (stops _ (accepted (header_in s)) n k e)
 
   pub header-answered : (vs : List ℕ) → looked ≡ accepted vs → accepted (header_in s) ≡ read_from_answer s b
   unfolding read_from_answer

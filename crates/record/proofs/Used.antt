@@ -20,8 +20,8 @@ used h b = lent (take (2 * record_wires h) b.values) (take (record_wires h) b.co
 
 -- a record's numbers, from its fields and lists
 abbrev pub laid : ℕ → ℕ → ℕ → ℕ → List ℕ → ℕ → ℕ → List ℕ → ℕ → List ℕ → List ℕ
-laid ctx clk id n wire-list declared reads read-cells evals eval-cells =
-    (ctx ∷ clk ∷ id ∷ n ∷ wire-list) ++ ((declared ∷ reads ∷ read-cells) ++ (evals ∷ eval-cells))
+laid ctx clk id n wire-list declared reads read-cells evals eval_cells_lem =
+    (ctx ∷ clk ∷ id ∷ n ∷ wire-list) ++ ((declared ∷ reads ∷ read-cells) ++ (evals ∷ eval_cells_lem))
 
 pub laid_equal : {ctx clk id n d r e ctx' clk' id' n' d' r' e' : ℕ} {ws rc ec ws' rc' ec' : List ℕ}
     → ctx ≡ ctx' → clk ≡ clk' → id ≡ id' → n ≡ n' → ws ≡ ws' → d ≡ d' → r ≡ r' → rc ≡ rc' → e ≡ e' → ec ≡ ec'

@@ -50,16 +50,16 @@ taken_append vs ws = ap length (bytes-append vs ws) ∙ length-append (bytes_of_
 
 -- numbers from a place of cells on
 module _ (cells : List ℕ) (from : ℕ) where
-  pub cells-next : (i : ℕ) → from + i < length cells → take (i + 1) (drop from cells) ≡ take i (drop from cells) ++ (get_or cells (from + i) 0 ∷ [])
-  cells-next i h =
+  pub cells_next : (i : ℕ) → from + i < length cells → take (i + 1) (drop from cells) ≡ take i (drop from cells) ++ (get_or cells (from + i) 0 ∷ [])
+  cells_next i h =
       ap (λ (k : ℕ). take k (drop from cells)) (add-one i)
       ∙ take-suc (drop from cells) i 0 (omega (arith, length-drop from cells))
       ∙ ap (λ (v : ℕ). take i (drop from cells) ++ (v ∷ [])) (get_or-drop from cells i 0)
 
-  pub cells-taken : (i : ℕ) → from + i < length cells → taken (take (i + 1) (drop from cells)) ≡ taken (take i (drop from cells)) + width_of (get_or cells (from + i) 0)
-  cells-taken i h =
+  pub cells_taken : (i : ℕ) → from + i < length cells → taken (take (i + 1) (drop from cells)) ≡ taken (take i (drop from cells)) + width_of (get_or cells (from + i) 0)
+  cells_taken i h =
       let v : ℕ = get_or cells (from + i) 0 in
-      omega (arith, ap taken (cells-next i h), taken_append (take i (drop from cells)) (v ∷ []), taken_more v [], taken_none)
+      omega (arith, ap taken (cells_next i h), taken_append (take i (drop from cells)) (v ∷ []), taken_more v [], taken_none)
 
   pub cells-within : (i n : ℕ) → i ≤ n → taken (take i (drop from cells)) ≤ taken (take n (drop from cells))
   cells-within i n h =
@@ -73,23 +73,23 @@ module _ (cells : List ℕ) (from : ℕ) where
 
 -- wires, each by its three numbers
 module _ (values counts : List ℕ) where
-  abbrev pub wiresTaken : ℕ → ℕ
-  wiresTaken k = taken (each (wire_numbers values counts) k)
+  abbrev pub wires_taken : ℕ → ℕ
+  wires_taken k = taken (each (wire_numbers values counts) k)
 
-  pub wires-taken-none : wiresTaken 0 ≡ 0
-  wires-taken-none = ap taken (each_none (wire_numbers values counts)) ∙ taken_none
+  pub wires_taken_none : wires_taken 0 ≡ 0
+  wires_taken_none = ap taken (each_none (wire_numbers values counts)) ∙ taken_none
 
-  pub wires-next : (k : ℕ) → each (wire_numbers values counts) (k + 1) ≡ each (wire_numbers values counts) k ++ wire_numbers values counts k
-  wires-next k = ap (each (wire_numbers values counts)) (add-one k) ∙ each_more (wire_numbers values counts) k
+  pub wires_next : (k : ℕ) → each (wire_numbers values counts) (k + 1) ≡ each (wire_numbers values counts) k ++ wire_numbers values counts k
+  wires_next k = ap (each (wire_numbers values counts)) (add-one k) ∙ each_more (wire_numbers values counts) k
 
-  pub wires-taken : (k : ℕ) → wiresTaken (k + 1) ≡ wiresTaken k + (width_of (get_or values (2 * k) 0) + (width_of (get_or values (2 * k + 1) 0) + width_of (get_or counts k 0)))
-  wires-taken k =
+  pub wires_taken_lem : (k : ℕ) → wires_taken (k + 1) ≡ wires_taken k + (width_of (get_or values (2 * k) 0) + (width_of (get_or values (2 * k + 1) 0) + width_of (get_or counts k 0)))
+  wires_taken_lem k =
       let a : ℕ = get_or values (2 * k) 0 in
       let b : ℕ = get_or values (2 * k + 1) 0 in
       let m : ℕ = get_or counts k 0 in
       omega (
         arith,
-        ap taken (wires-next k),
+        ap taken (wires_next k),
         taken_append (each (wire_numbers values counts) k) (wire_numbers values counts k),
         taken_more a (b ∷ m ∷ []),
         taken_more b (m ∷ []),
@@ -97,11 +97,11 @@ module _ (values counts : List ℕ) where
         taken_none,
       )
 
-  pub wires-within : (k n : ℕ) → k ≤ n → wiresTaken k ≤ wiresTaken n
+  pub wires-within : (k n : ℕ) → k ≤ n → wires_taken k ≤ wires_taken n
   wires-within zero zero h = omega arith
   wires-within (suc k) zero h = absurd (omega arith)
   wires-within k (suc n) h =
       ⊎_elim
-      (λ (l : k < suc n). let i = wires-within k n (omega arith) in omega (arith, wires-taken n, ap wiresTaken (add-one n)))
-      (λ (l : suc n ≤ k). let e : k ≡ suc n = omega arith in omega (arith, ap wiresTaken e))
+      (λ (l : k < suc n). let i = wires-within k n (omega arith) in omega (arith, wires_taken_lem n, ap wires_taken (add-one n)))
+      (λ (l : suc n ≤ k). let e : k ≡ suc n = omega arith in omega (arith, ap wires_taken e))
       (below? k (suc n))

@@ -18,8 +18,8 @@ use Rattle.record.proofs.Ways.{passed}
 use Rattle.record.proofs.Places.{number_is, after_none, after_two, from_none}
 use Rattle.record.proofs.Bounds.{AllBelow}
 use Rattle.record.proofs.Sequence.{Stand, stand_join, stand_split_at}
-use Rattle.record.proofs.Numbers.{numbers_of, numbers-pass}
-use Rattle.record.proofs.Wires.{wires_none, wires-more, wire-on, counted}
+use Rattle.record.proofs.Numbers.{numbers_of, numbers_pass}
+use Rattle.record.proofs.Wires.{wires_none, wires_more, wire_on, counted}
 
 -- the numbers of wires
 
@@ -132,8 +132,8 @@ wire_pass : (a b c : ℕ) (s : List ℕ) (at : ℕ) → WireStands a b c s at �
 unfolding after
 wire_pass a b c s at w =
     counted s at 0 (after 2 s at) _
-    (numbers-pass p s (a ∷ b ∷ []) at (after 2 s at) (w.stand.0, (w.stand.1.0, refl)) (w.first, (w.second, tt)))
-    (numbers-pass u32 s (c ∷ []) (after 2 s at) (after 3 s at) (w.stand.1.1.0, refl) (w.count, tt))
+    (numbers_pass p s (a ∷ b ∷ []) at (after 2 s at) (w.stand.0, (w.stand.1.0, refl)) (w.first, (w.second, tt)))
+    (numbers_pass u32 s (c ∷ []) (after 2 s at) (after 3 s at) (w.stand.1.1.0, refl) (w.count, tt))
 
 -- n wires from a place on are accepted: their numbers stand there, the values are elements, and the counts are below 2^32
 pub record WiresFound (n : ℕ) (s : List ℕ) (at : ℕ) : Type 0 where
@@ -150,7 +150,7 @@ wires_of_lem zero s at vs e =
       counts = tt;
     }
 wires_of_lem (suc n) s at vs e =
-    let b = passed _ _ vs (sym (wires-more s n at) ∙ e) in
+    let b = passed _ _ vs (sym (wires_more s n at) ∙ e) in
     let w = wire_of s at b.values b.first in
     let r = wires_of_lem n s (after 3 s at) vs b.then in
     let a = number_at s at ∷ number_at s (next_at s at) ∷ number_at s (after 2 s at) ∷ [] in
@@ -192,7 +192,7 @@ wires-read (suc n) (a ∷ b ∷ vs) (c ∷ cs) s at end h lv lc bv bc =
     record {
       values = values_more n s at ∙ rw (x, y, r.values);
       counts = counts_more n s at ∙ rw (z, r.counts);
-      answer = wire-on s n at _ w ∙ r.answer;
+      answer = wire_on s n at _ w ∙ r.answer;
     }
 
 -- so wires that are accepted end where three numbers for each end
@@ -208,4 +208,4 @@ pub count_fits : (n : ℕ) (s : List ℕ) (at : ℕ) → Wires (suc n) s at → 
 count_fits n s at e = (subst (AllBelow u32) (counts_more n s at) (wires_of_lem (suc n) s at _ e).counts).0
 
 pub wires-behind : (n : ℕ) (s : List ℕ) (at : ℕ) → Wires (suc n) s at → Wires n s (after 3 s at)
-wires-behind n s at e = wires_accepted n s (after 3 s at) _ (passed (wire_answer s at) (wires_answer n s (after 3 s at)) _ (sym (wires-more s n at) ∙ e)).then
+wires-behind n s at e = wires_accepted n s (after 3 s at) _ (passed (wire_answer s at) (wires_answer n s (after 3 s at)) _ (sym (wires_more s n at) ∙ e)).then

@@ -23,8 +23,8 @@ pub record WiresLoading (s : List ℕ) (at n : ℕ) (old-values old-counts value
   pub stored-counts : sets counts k (counts_from (n - k) s next) ≡ sets old-counts 0 (counts_from n s at)
 
 module _ (s : List ℕ) (at n : ℕ) (old-values old-counts : List ℕ) where
-  pub wires-start : Wires n s at → WiresLoading s at n old-values old-counts old-values old-counts at 0
-  wires-start w =
+  pub wires_start : Wires n s at → WiresLoading s at n old-values old-counts old-values old-counts at 0
+  wires_start w =
       record {
         same_values = refl;
         same_counts = refl;
@@ -38,8 +38,8 @@ module _ (s : List ℕ) (at n : ℕ) (old-values old-counts : List ℕ) where
     left : k < n → Wires (suc (n - (k + 1))) s next
     left h = let m : n - k ≡ suc (n - (k + 1)) = omega arith in subst (λ (j : ℕ). Wires j s next) m l.stand
 
-    pub count-is-u32 : (count_at v : ℕ) → count_at ≡ after 2 s next → v ≡ number_at s count_at → k < n → v < u32
-    count-is-u32 count_at v e f h =
+    pub count_is_u32 : (count_at v : ℕ) → count_at ≡ after 2 s next → v ≡ number_at s count_at → k < n → v < u32
+    count_is_u32 count_at v e f h =
         let q : v ≡ number_at s (after 2 s next) = f ∙ ap (number_at s) e in
         omega (arith, q, count_fits (n - (k + 1)) s next (left h))
 
@@ -55,8 +55,8 @@ module _ (s : List ℕ) (at n : ℕ) (old-values old-counts : List ℕ) where
           ∙ ap (λ (j : ℕ). after (3 * j) s next) (sym m)
           ∙ l.place
 
-      kept-values : sets (sets values (2 * k) (numbers_from 2 s next)) (2 * (k + 1)) (values_from (n - (k + 1)) s place) ≡ sets old-values 0 (values_from n s at)
-      kept-values =
+      kept_values : sets (sets values (2 * k) (numbers_from 2 s next)) (2 * (k + 1)) (values_from (n - (k + 1)) s place) ≡ sets old-values 0 (values_from n s at)
+      kept_values =
           let m : n - k ≡ suc (n - (k + 1)) = omega arith in
           let j : 2 * (k + 1) ≡ 2 * k + length (numbers_from 2 s next) = omega (arith, length_from 2 s next) in
           ap₂ (λ (x y : ℕ). sets (sets values (2 * k) (numbers_from 2 s next)) x (values_from (n - (k + 1)) s y)) j third
@@ -65,8 +65,8 @@ module _ (s : List ℕ) (at n : ℕ) (old-values old-counts : List ℕ) where
           ∙ ap (sets values (2 * k)) (sym (values_more (n - (k + 1)) s next) ∙ ap (λ (x : ℕ). values_from x s next) (sym m))
           ∙ l.stored-values
 
-      kept-counts : sets (set counts k v) (k + 1) (counts_from (n - (k + 1)) s place) ≡ sets old-counts 0 (counts_from n s at)
-      kept-counts =
+      kept_counts : sets (set counts k v) (k + 1) (counts_from (n - (k + 1)) s place) ≡ sets old-counts 0 (counts_from n s at)
+      kept_counts =
           let m : n - k ≡ suc (n - (k + 1)) = omega arith in
           let j : k + 1 ≡ suc k = omega arith in
           ap₂ (λ (x y : ℕ). sets (set counts k v) x (counts_from (n - (k + 1)) s y)) j third
@@ -74,21 +74,21 @@ module _ (s : List ℕ) (at n : ℕ) (old-values old-counts : List ℕ) where
           ∙ ap (sets counts k) (sym (counts_more (n - (k + 1)) s next) ∙ ap (λ (x : ℕ). counts_from x s next) (sym m))
           ∙ l.stored-counts
 
-      pub wires-next : (values' : List ℕ) → values' ≡ sets values (2 * k) (numbers_from 2 s next)
+      pub wires_next : (values' : List ℕ) → values' ≡ sets values (2 * k) (numbers_from 2 s next)
           → WiresLoading s at n old-values old-counts values' (set counts k v) place (k + 1)
-      wires-next values' q =
+      wires_next values' q =
           record {
             same_values = ap (λ (x : List ℕ). length x) q ∙ length-sets values (2 * k) (numbers_from 2 s next) ∙ l.same_values;
             same_counts = length-set counts k v ∙ l.same_counts;
             stand = subst (λ (j : ℕ). Wires (n - (k + 1)) s j) (sym third) (wires-behind (n - (k + 1)) s next (left h));
             place = kept-place;
-            stored-values = ap (λ (x : List ℕ). sets x (2 * (k + 1)) (values_from (n - (k + 1)) s place)) q ∙ kept-values;
-            stored-counts = kept-counts;
+            stored-values = ap (λ (x : List ℕ). sets x (2 * (k + 1)) (values_from (n - (k + 1)) s place)) q ∙ kept_values;
+            stored-counts = kept_counts;
           }
 
-    pub loaded-wires : n ≤ k
+    pub loaded_wires : n ≤ k
         → (next ≡ after (3 * n) s at) × (values ≡ sets old-values 0 (values_from n s at)) × (counts ≡ sets old-counts 0 (counts_from n s at))
-    loaded-wires h =
+    loaded_wires h =
         let z : n - k ≡ 0 = omega arith in
         let y : 3 * (n - k) ≡ 0 = omega arith in (
           sym (after_none s next) ∙ ap (λ (j : ℕ). after j s next) (sym y) ∙ l.place,

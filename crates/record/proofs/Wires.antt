@@ -16,15 +16,15 @@ module _ (s : List ℕ) where
   unfolding wires_answer
   wires_none at = refl
 
-  pub wires-more : (n at : ℕ) → wires_answer (suc n) s at ≡ or_else (wire_answer s at) (wires_answer n s (after 3 s at))
+  pub wires_more : (n at : ℕ) → wires_answer (suc n) s at ≡ or_else (wire_answer s at) (wires_answer n s (after 3 s at))
   unfolding wires_answer
-  wires-more n at = refl
+  wires_more n at = refl
 
-  pub wire-on : (n at : ℕ) (vs : List ℕ) → wire_answer s at ≡ accepted vs → wires_answer (suc n) s at ≡ wires_answer n s (after 3 s at)
-  wire-on n at vs e = wires-more n at ∙ goes_on _ (wires_answer n s (after 3 s at)) vs e
+  pub wire_on : (n at : ℕ) (vs : List ℕ) → wire_answer s at ≡ accepted vs → wires_answer (suc n) s at ≡ wires_answer n s (after 3 s at)
+  wire_on n at vs e = wires_more n at ∙ goes_on _ (wires_answer n s (after 3 s at)) vs e
 
   wire-off : (n at number place : ℕ) → wire_answer s at ≡ refused number place → wires_answer (suc n) s at ≡ refused number place
-  wire-off n at number place e = wires-more n at ∙ stops _ (wires_answer n s (after 3 s at)) number place e
+  wire-off n at number place e = wires_more n at ∙ stops _ (wires_answer n s (after 3 s at)) number place e
 
   -- one wire, by its value and its count
   value-refused : (at number place : ℕ) → numbers_answer p 2 s at ≡ refused number place → wire_answer s at ≡ refused number place
@@ -44,20 +44,20 @@ module _ (s : List ℕ) where
         let k : n - i ≡ suc (n - (i + 1)) = omega arith in
         sym e ∙ ap (λ (m : ℕ). wires_answer m s next) (sym k) ∙ q
 
-    pub wires-on : (v count_at w place : ℕ) → numbers_answer p 2 s next ≡ accepted (v ∷ count_at ∷ []) → numbers_answer u32 1 s count_at ≡ accepted (w ∷ place ∷ [])
+    pub wires_on : (v count_at w place : ℕ) → numbers_answer p 2 s next ≡ accepted (v ∷ count_at ∷ []) → numbers_answer u32 1 s count_at ≡ accepted (w ∷ place ∷ [])
         → wires_answer (n - i) s next ≡ t → i < n → wires_answer (n - (i + 1)) s place ≡ t
-    wires-on v count_at w place e f q h =
+    wires_on v count_at w place e f q h =
         ap (wires_answer (n - (i + 1)) s) (place_behind p u32 s 2 1 next v count_at w place e f)
-        ∙ left (wires_answer (n - (i + 1)) s (after 3 s next)) h (wire-on (n - (i + 1)) next (w ∷ place ∷ []) (counted next v count_at _ e f)) q
+        ∙ left (wires_answer (n - (i + 1)) s (after 3 s next)) h (wire_on (n - (i + 1)) next (w ∷ place ∷ []) (counted next v count_at _ e f)) q
 
-    pub value-off : (number place : ℕ) → numbers_answer p 2 s next ≡ refused number place → wires_answer (n - i) s next ≡ t → i < n → refused number place ≡ t
-    value-off number place e q h = left (refused number place) h (wire-off (n - (i + 1)) next number place (value-refused next number place e)) q
+    pub value_off : (number place : ℕ) → numbers_answer p 2 s next ≡ refused number place → wires_answer (n - i) s next ≡ t → i < n → refused number place ≡ t
+    value_off number place e q h = left (refused number place) h (wire-off (n - (i + 1)) next number place (value-refused next number place e)) q
 
-    pub count-off : (v count_at number place : ℕ) → numbers_answer p 2 s next ≡ accepted (v ∷ count_at ∷ []) → numbers_answer u32 1 s count_at ≡ refused number place
+    pub count_off : (v count_at number place : ℕ) → numbers_answer p 2 s next ≡ accepted (v ∷ count_at ∷ []) → numbers_answer u32 1 s count_at ≡ refused number place
         → wires_answer (n - i) s next ≡ t → i < n → refused number place ≡ t
-    count-off v count_at number place e f q h = left (refused number place) h (wire-off (n - (i + 1)) next number place (counted next v count_at _ e f)) q
+    count_off v count_at number place e f q h = left (refused number place) h (wire-off (n - (i + 1)) next number place (counted next v count_at _ e f)) q
 
-    pub wires-end : wires_answer (n - i) s next ≡ t → n ≤ i → accepted (0 ∷ next ∷ []) ≡ t
-    wires-end q h =
+    pub wires_end : wires_answer (n - i) s next ≡ t → n ≤ i → accepted (0 ∷ next ∷ []) ≡ t
+    wires_end q h =
         let k : n - i ≡ 0 = omega arith in
         sym (wires_none next) ∙ ap (λ (m : ℕ). wires_answer m s next) (sym k) ∙ q

@@ -20,7 +20,7 @@ use Rattle.trace.proofs.Choices.{both_hold, passes}
 use Rattle.trace.proofs.Reached.{room_is}
 use Rattle.trace.proofs.Records.{Recorded, record_of, in_order}
 use Rattle.record.specs.Bytes.{record_bytes, of_bytes, write_into_answer, written_into}
-use Rattle.record.proofs.RecordWriting.{write-left, write_goes}
+use Rattle.record.proofs.RecordWriting.{write_left, write_goes}
 use Rattle.record.proofs.Used.{front_set}
 
 elements_hold : (n : ℕ) (xs : List ℕ) → n ≤ length xs → ((k : ℕ) → k < n → get_or xs k 0 < p) → elements n xs ≡ true
@@ -61,5 +61,5 @@ written_of h b out vs e =
       recorded = r.0;
       answer = sym (same_values q.1);
       inside = l;
-      bytes = sym (write-left h b out (accepted vs) (sym e)) ∙ front_set (length (record_bytes h b)) (record_bytes h b) out refl l;
+      bytes = sym (write_left h b out (accepted vs) (sym e)) ∙ front_set (length (record_bytes h b)) (record_bytes h b) out refl l;
     }

@@ -11,14 +11,14 @@ use numbers::{ReadAnswer, read};
 use trace::{EVAL_CELLS, READ_CELLS, RecordHeader};
 
 // A number and the place after it.
-#[derive(Drop)]
+#[derive(Clone, Copy)]
 pub struct Number {
     pub value: u64,
     pub next: usize,
 }
 
 // How many READ and EVAL nodes there are.
-#[derive(Drop)]
+#[derive(Clone, Copy)]
 pub struct Lengths {
     pub reads: u64,
     pub evals: u64,

@@ -27,10 +27,10 @@ use Rattle.trace.proofs.Records.{in_order}
 use Rattle.eval_circuit.specs.Circuit.{Circuit, num_wires, word, value}
 use Rattle.eval_circuit.specs.Evaluated.{circuit_at, eval_answer, id_at, value_cells, read_cells, eval_cells, filled, eval_buffers}
 use Rattle.eval_circuit.proofs.Values.{value-elements}
-use Rattle.eval_circuit.proofs.RegionCells.{region-by-cell}
+use Rattle.eval_circuit.proofs.RegionCells.{region_by_cell}
 use Rattle.eval_circuit.proofs.Stages.{values_length, nodes-length}
-use Rattle.eval_circuit.proofs.Accepted.{Valid, accepted-valid, accepted-header}
-use Rattle.eval_circuit.proofs.Wires.{accepted-filled, length-values, length-counts, length-nodes}
+use Rattle.eval_circuit.proofs.Accepted.{Valid, accepted_valid, accepted_header}
+use Rattle.eval_circuit.proofs.Wires.{accepted_filled, length-values, length-counts, length-nodes}
 
 -- the header of an accepted evaluation: "after evaluation id_next is p - 1"
 abbrev pub eval_header : ℕ → ℕ → ℕ → ℕ → RecordHeader
@@ -126,11 +126,11 @@ module _ (ctx clk ptr num-vars num-eval : ℕ) (memory : List ℕ) (b : Lent) (h
   after = eval_buffers ctx clk ptr num-vars num-eval memory b
 
   valid : Valid ptr num-vars num-eval memory b
-  valid = accepted-valid ctx clk ptr num-vars num-eval memory b (header_numbers h) e
+  valid = accepted_valid ctx clk ptr num-vars num-eval memory b (header_numbers h) e
 
   -- the header that is answered is this one
   pub answered-header : h ≡ eval_header ctx clk num-vars num-eval
-  answered-header = ap from_numbers (accepted-header ctx clk ptr num-vars num-eval memory b (header_numbers h) e)
+  answered-header = ap from_numbers (accepted_header ctx clk ptr num-vars num-eval memory b (header_numbers h) e)
 
   -- variables come in twos
   wires-same : record_wires (eval_header ctx clk num-vars num-eval) ≡ num-vars + num-eval
@@ -147,7 +147,7 @@ module _ (ctx clk ptr num-vars num-eval : ℕ) (memory : List ℕ) (b : Lent) (h
       sym (room_by_nodes (num-vars / 2) num-eval (length after.values) (length after.counts) (length after.nodes) (omega (arith, wires-same)) (omega (arith, wires-same))) ∙ le-leb (node_cells (num-vars / 2) num-eval) (length after.nodes) (omega arith)
 
   values-elements : (id : ℕ) → Elements (value circuit id)
-  values-elements = value-elements circuit (region-by-cell memory ptr num-vars num-eval valid.elements valid.in_memory)
+  values-elements = value-elements circuit (region_by_cell memory ptr num-vars num-eval valid.elements valid.in_memory)
 
   few-wires : num-vars + num-eval < p
   few-wires = let f = valid.few in omega arith
@@ -158,15 +158,15 @@ module _ (ctx clk ptr num-vars num-eval : ℕ) (memory : List ℕ) (b : Lent) (h
   in_field_lem : in_field (eval_header ctx clk num-vars num-eval) after ≡ true
   unfolding in_field
   in_field_lem =
-      let f = accepted-filled ctx clk ptr num-vars num-eval memory b (header_numbers h) e in
+      let f = accepted_filled ctx clk ptr num-vars num-eval memory b (header_numbers h) e in
       rw (f, wires-same)
       (both_hold _ _ (filled-values-in circuit ptr values-elements few-wires near-pointer b)
       (both_hold _ _ (filled-nodes-in circuit ptr values-elements few-wires near-pointer b)
       (lt-ltb (p - 1) p (omega arith))))
 
   -- "21, 19, 6, 17" are never given: what comes after these tests is answered
-  pub record-passes : (t : Told) → of_record h after t ≡ t
-  record-passes t =
+  pub record_passes : (t : Told) → of_record h after t ≡ t
+  record_passes t =
       let n : (num-eval ≡ 0 → ⊥) = λ z. let s = valid.some_evals in omega arith in
       let f = valid.few in
       ap (λ (x : RecordHeader). of_record x after t) answered-header

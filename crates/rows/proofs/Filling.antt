@@ -68,8 +68,8 @@ module _ (h : RecordHeader) (b : Lent) (offset : ℕ) (rows : List ℕ) where
   pub fill_stops : (number place : ℕ) → refused number place ≡ of_record h b (accepted []) → (refused number place ≡ fill_answer h b offset rows) × (rows ≡ filled_rows h b offset rows)
   fill_stops n k e = let q = stopped n k e in (q, kept n k q)
 
-  pub fill-short : accepted [] ≡ of_record h b (accepted []) → length rows < 16 * (offset + num_rows h) → (refused 14 0 ≡ fill_answer h b offset rows) × (rows ≡ filled_rows h b offset rows)
-  fill-short e l = let q = short_rows offset (num_rows h) (length rows) (accepted []) l ∙ passed e in (q, kept 14 0 q)
+  pub fill_short : accepted [] ≡ of_record h b (accepted []) → length rows < 16 * (offset + num_rows h) → (refused 14 0 ≡ fill_answer h b offset rows) × (rows ≡ filled_rows h b offset rows)
+  fill_short e l = let q = short_rows offset (num_rows h) (length rows) (accepted []) l ∙ passed e in (q, kept 14 0 q)
 
   pub fill_done : accepted [] ≡ of_record h b (accepted []) → 16 * (offset + num_rows h) ≤ length rows → {read filled : List ℕ}
       → read ≡ sets rows (16 * offset) (each (record_read_row h b.counts b.nodes) h.num_read)
@@ -88,17 +88,17 @@ module _ (h : RecordHeader) (b : Lent) (offset : ℕ) (rows : List ℕ) where
       )
 
 module _ (s : CircuitEvaluation) (b : Lent) (offset : ℕ) (rows : List ℕ) where
-  pub state-stops : (number place : ℕ) → refused number place ≡ finalized_answer s → (refused number place ≡ fill_state_answer s b offset rows) × (rows ≡ state_rows s b offset rows)
+  pub state_stops : (number place : ℕ) → refused number place ≡ finalized_answer s → (refused number place ≡ fill_state_answer s b offset rows) × (rows ≡ state_rows s b offset rows)
   unfolding fill_state_answer
-  state-stops n k e =
+  state_stops n k e =
       let q = finalized_stops s (header_numbers (header_of s)) (fill_answer (header_of s) b offset rows) n k e in
       (q, ap (λ (t : Told). changed t (rows_written (header_of s) b offset rows) rows) q)
 
   -- the header of a finished state, and the fill of that
-  pub state-fills : (h : RecordHeader) (t : Told) (filled : List ℕ) → accepted (header_numbers h) ≡ finalized_answer s → t ≡ fill_answer h b offset rows → filled ≡ filled_rows h b offset rows
+  pub state_fills : (h : RecordHeader) (t : Told) (filled : List ℕ) → accepted (header_numbers h) ≡ finalized_answer s → t ≡ fill_answer h b offset rows → filled ≡ filled_rows h b offset rows
       → (t ≡ fill_state_answer s b offset rows) × (filled ≡ state_rows s b offset rows)
   unfolding fill_state_answer
-  state-fills h t filled e et er =
+  state_fills h t filled e et er =
       let same = finalized_header h s e in
       let goes = finalized_goes s (header_numbers (header_of s)) (header_numbers h) (fill_answer (header_of s) b offset rows) e in (
         et ∙ ap (λ (k : RecordHeader). fill_answer k b offset rows) same ∙ goes,

@@ -16,14 +16,14 @@ use Rattle.trace.specs.Eval.{eval_op}
 use Rattle.trace.specs.Output.{header_numbers}
 use Rattle.eval_circuit.specs.Circuit.{Circuit}
 use Rattle.eval_circuit.specs.Evaluated.{circuit_at, eval_answer, id_at, eval_buffers}
-use Rattle.eval_circuit.proofs.Shape.{Alike, same_word, same-multiplicity}
+use Rattle.eval_circuit.proofs.Shape.{Alike, same_word, same_multiplicity}
 use Rattle.eval_circuit.proofs.Secrets.{Unseen, unseen}
 use Rattle.rows.specs.Rows.{record_rows}
 use Rattle.rows.specs.Fill.{fill_answer, filled_rows}
 use Rattle.rows.specs.ByWire.{wire_read_row, wire_eval_row, circuit_rows}
-use Rattle.rows.proofs.WireRows.{circuit-rows-length, read-row-cell, eval-row-cell}
+use Rattle.rows.proofs.WireRows.{circuit_rows_length, read_row_cell, eval_row_cell}
 use Rattle.rows.proofs.WireValues.{SameRows, SameBuffers, SameBut, hidden, shown, unshown, same_all, row_same, by_row}
-use Rattle.rows.proofs.EvaluatedRows.{rows-by-wire, fill-tests, filled-named, filled-before, filled-behind, filled-length, refused-kept}
+use Rattle.rows.proofs.EvaluatedRows.{rows_by_wire, fill_tests, filled_named, filled-before, filled-behind, filled-length, refused_kept}
 
 -- what the records of two evaluations fill: the same rows but for wire values, and in every row buffer, at every offset, the same answer and the same cells but for wire values
 pub record RowsAlike (num-vars num-eval : ℕ) (first-header second-header : RecordHeader) (first second : Lent) : Type 0 where
@@ -49,31 +49,31 @@ module _ (ctx clk ptr num-vars num-eval : ℕ) (first second : List ℕ) (alike 
 
   read-row-same : (i : ℕ) (evals : Bool) → SameBut (hidden evals) (wire_read_row ctx clk ptr one i) (wire_read_row ctx clk ptr two i)
   read-row-same i evals =
-      let m₀ = same-multiplicity ptr num-vars num-eval first second alike (id_at one (2 * i)) in
-      let m₁ = same-multiplicity ptr num-vars num-eval first second alike (id_at one (2 * i + 1)) in
+      let m₀ = same_multiplicity ptr num-vars num-eval first second alike (id_at one (2 * i)) in
+      let m₁ = same_multiplicity ptr num-vars num-eval first second alike (id_at one (2 * i + 1)) in
       row_same evals _ _ _ _ _ _ _ _ _ _ _ _ _ _ _ _ refl refl
       (shown _ _ _ _ _ refl (shown _ _ _ _ _ refl (shown _ _ _ _ _ m₁ (shown _ _ _ _ _ m₀ (same_all _ [])))))
 
   eval-row-same : (k : ℕ) → k < num-eval → SameBut (hidden true) (wire_eval_row ctx clk ptr one k) (wire_eval_row ctx clk ptr two k)
   eval-row-same k h =
       let w = same_word ptr num-vars num-eval first second alike k h in
-      let m₀ = same-multiplicity ptr num-vars num-eval first second alike (id_at one (num-vars + k)) in
+      let m₀ = same_multiplicity ptr num-vars num-eval first second alike (id_at one (num-vars + k)) in
       row_same true _ _ _ _ _ _ _ _ _ _ _ _ _ _ _ _ (ap (λ (x : ℕ). eval_op (opcode x)) w) (ap left_id w)
       (shown _ _ _ _ _ (ap right_id w) (unshown _ _ _ _ _ refl (unshown _ _ _ _ _ refl (shown _ _ _ _ _ m₀ (same_all _ [])))))
 
   -- the rows of the two circuits: s_start, s_block, ctx, ptr, clk, eval_op, ids, num_eval and multiplicities are the same
   pub same_rows : SameRows (num-vars / 2) (circuit_rows ctx clk ptr one) (circuit_rows ctx clk ptr two)
   same_rows =
-      by_row (num-vars / 2) num-eval (circuit_rows ctx clk ptr one) (circuit_rows ctx clk ptr two) (circuit-rows-length ctx clk ptr one) (circuit-rows-length ctx clk ptr two)
-      (λ i j h l q. read-row-cell ctx clk ptr one i j h l ∙ (read-row-same i (leb (16 * (num-vars / 2)) (16 * i + j))).cell j q ∙ sym (read-row-cell ctx clk ptr two i j h l))
-      (λ k j h l q. eval-row-cell ctx clk ptr one k j h l ∙ (eval-row-same k h).cell j q ∙ sym (eval-row-cell ctx clk ptr two k j h l))
+      by_row (num-vars / 2) num-eval (circuit_rows ctx clk ptr one) (circuit_rows ctx clk ptr two) (circuit_rows_length ctx clk ptr one) (circuit_rows_length ctx clk ptr two)
+      (λ i j h l q. read_row_cell ctx clk ptr one i j h l ∙ (read-row-same i (leb (16 * (num-vars / 2)) (16 * i + j))).cell j q ∙ sym (read_row_cell ctx clk ptr two i j h l))
+      (λ k j h l q. eval_row_cell ctx clk ptr one k j h l ∙ (eval-row-same k h).cell j q ∙ sym (eval_row_cell ctx clk ptr two k j h l))
 
   -- both accepted, each with its header
   module _ (b : Lent) (h k : RecordHeader)
       (e : eval_answer ctx clk ptr num-vars num-eval first b ≡ accepted (header_numbers h))
       (f : eval_answer ctx clk ptr num-vars num-eval second b ≡ accepted (header_numbers k)) where
     same-record-rows : SameRows (num-vars / 2) (record_rows h (eval_buffers ctx clk ptr num-vars num-eval first b)) (record_rows k (eval_buffers ctx clk ptr num-vars num-eval second b))
-    same-record-rows = rw (rows-by-wire ctx clk ptr num-vars num-eval first b h e, rows-by-wire ctx clk ptr num-vars num-eval second b k f) same_rows
+    same-record-rows = rw (rows_by_wire ctx clk ptr num-vars num-eval first b h e, rows_by_wire ctx clk ptr num-vars num-eval second b k f) same_rows
 
     module _ (offset : ℕ) (rows : List ℕ) where
       abbrev first-filled : List ℕ
@@ -83,11 +83,11 @@ module _ (ctx clk ptr num-vars num-eval : ℕ) (first second : List ℕ) (alike 
       second-filled = filled_rows k (eval_buffers ctx clk ptr num-vars num-eval second b) offset rows
 
       same_answer : fill_answer h (eval_buffers ctx clk ptr num-vars num-eval first b) offset rows ≡ fill_answer k (eval_buffers ctx clk ptr num-vars num-eval second b) offset rows
-      same_answer = fill-tests ctx clk ptr num-vars num-eval first b h e offset rows ∙ sym (fill-tests ctx clk ptr num-vars num-eval second b k f offset rows)
+      same_answer = fill_tests ctx clk ptr num-vars num-eval first b h e offset rows ∙ sym (fill_tests ctx clk ptr num-vars num-eval second b k f offset rows)
 
       same-refused : length rows < 16 * (offset + (num-vars / 2 + num-eval)) → SameBuffers offset (num-vars / 2) num-eval first-filled second-filled
       same-refused l =
-          let q = refused-kept ctx clk ptr num-vars num-eval first b h e offset rows l ∙ sym (refused-kept ctx clk ptr num-vars num-eval second b k f offset rows l) in
+          let q = refused_kept ctx clk ptr num-vars num-eval first b h e offset rows l ∙ sym (refused_kept ctx clk ptr num-vars num-eval second b k f offset rows l) in
           record {
             same_length = ap length q;
             same_named = (λ i m v. ap (λ (xs : List ℕ). get_or xs (16 * offset + i) 0) q);
@@ -99,16 +99,16 @@ module _ (ctx clk ptr num-vars num-eval : ℕ) (first second : List ℕ) (alike 
       same-filled l = record {
         same_length = filled-length ctx clk ptr num-vars num-eval first b h e offset rows l ∙ sym (filled-length ctx clk ptr num-vars num-eval second b k f offset rows l);
         same_named = (λ i m v.
-            filled-named ctx clk ptr num-vars num-eval first b h e offset rows l i m
+            filled_named ctx clk ptr num-vars num-eval first b h e offset rows l i m
             ∙ same_rows.same_cells i v
-            ∙ sym (filled-named ctx clk ptr num-vars num-eval second b k f offset rows l i m));
+            ∙ sym (filled_named ctx clk ptr num-vars num-eval second b k f offset rows l i m));
         same_before = (λ i m. filled-before ctx clk ptr num-vars num-eval first b h e offset rows l i m ∙ sym (filled-before ctx clk ptr num-vars num-eval second b k f offset rows l i m));
         same_behind = (λ i m. filled-behind ctx clk ptr num-vars num-eval first b h e offset rows l i m ∙ sym (filled-behind ctx clk ptr num-vars num-eval second b k f offset rows l i m));
       }
 
   -- nothing but values tells the READ cells of one from those of the other, in rows as in records, unless one is refused 12 and the other is not
-  pub unseen-rows : (b : Lent) → UnseenRows ctx clk ptr num-vars num-eval first second b
-  unseen-rows b = record {
+  pub unseen_rows : (b : Lent) → UnseenRows ctx clk ptr num-vars num-eval first second b
+  unseen_rows b = record {
     evaluations = unseen ctx clk ptr num-vars num-eval first second b alike;
     accepted_rows = (λ h k e f. record {
       rows_alike = same-record-rows b h k e f;

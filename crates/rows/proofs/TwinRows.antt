@@ -15,8 +15,8 @@ use Rattle.eval_circuit.proofs.Twins.{other, other_answered, twins}
 use Rattle.rows.specs.Rows.{record_rows}
 use Rattle.rows.specs.ByWire.{circuit_rows, is_wire_value}
 use Rattle.rows.specs.Listing.{listed, by_wire, header}
-use Rattle.rows.proofs.EvaluatedRows.{rows-by-wire}
-use Rattle.rows.proofs.RowSecrets.{RowsAlike, unseen-rows}
+use Rattle.rows.proofs.EvaluatedRows.{rows_by_wire}
+use Rattle.rows.proofs.RowSecrets.{RowsAlike, unseen_rows}
 
 -- the listing's rows with other READ cells, 5 1 6 2 for 3 0 4 0
 abbrev pub other_listed : List ℕ
@@ -53,14 +53,14 @@ told_apart = refl
 
 -- both are accepted, with the same header
 pub twins_alike : RowsAlike 2 4 header header (eval_buffers 0 7 0 2 4 memory before) (eval_buffers 0 7 0 2 4 other before)
-twins_alike = (unseen-rows 0 7 0 2 4 memory other twins before).accepted_rows header header answered other_answered
+twins_alike = (unseen_rows 0 7 0 2 4 memory other twins before).accepted_rows header header answered other_answered
 
 -- and the rows of their records are the two lists
 pub first_listed : record_rows header (eval_buffers 0 7 0 2 4 memory before) ≡ listed
-first_listed = rows-by-wire 0 7 0 2 4 memory before header answered ∙ by_wire
+first_listed = rows_by_wire 0 7 0 2 4 memory before header answered ∙ by_wire
 
 pub second_listed : record_rows header (eval_buffers 0 7 0 2 4 other before) ≡ other_listed
-second_listed = rows-by-wire 0 7 0 2 4 other before header other_answered ∙ other_by_wire
+second_listed = rows_by_wire 0 7 0 2 4 other before header other_answered ∙ other_by_wire
 
 pub twins_differ : record_rows header (eval_buffers 0 7 0 2 4 memory before) ≡ record_rows header (eval_buffers 0 7 0 2 4 other before) → ⊥
 twins_differ e =

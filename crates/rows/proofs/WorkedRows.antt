@@ -16,7 +16,7 @@ use Rattle.eval_circuit.specs.Evaluated.{circuit_at, of_region, of_cells, eval_a
 use Rattle.rows.specs.Rows.{record_rows}
 use Rattle.rows.specs.ByWire.{circuit_rows}
 use Rattle.rows.proofs.AcceptedRecord.{eval_header}
-use Rattle.rows.proofs.EvaluatedRows.{rows-by-wire}
+use Rattle.rows.proofs.EvaluatedRows.{rows_by_wire}
 
 -- from address 4 on: v0, v1, v2, v3, then v0 + v0, v1 * v2, their second minus itself, and that times v2
 abbrev pub memory : List ℕ
@@ -45,4 +45,4 @@ by_wire = refl
 
 -- and of the record that the evaluation leaves
 pub by_record : record_rows (eval_header 2 9 4 4) (eval_buffers 2 9 4 4 4 memory before) ≡ worked
-by_record = rows-by-wire 2 9 4 4 4 memory before (eval_header 2 9 4 4) answered ∙ by_wire
+by_record = rows_by_wire 2 9 4 4 4 memory before (eval_header 2 9 4 4) answered ∙ by_wire

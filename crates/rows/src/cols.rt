@@ -6,7 +6,7 @@ ghost use Rattle.rows.specs.Inside.{col_cells, Held};
 
 use trace::RecordHeader;
 
-#[derive(Drop)]
+#[derive(Clone, Copy)]
 pub struct AceCols {
     pub s_start: u64,
     pub s_block: u64,

@@ -18,7 +18,7 @@ pub const ACE_CHIPLET_NUM_COLS: usize = 16;
 pub const SHORT_ROWS: u32 = 14;
 
 // That the rows are written, or the refusal's number and place.
-#[derive(Drop)]
+#[derive(Clone, Copy)]
 pub enum FillAnswer {
     Filled,
     Refused(u32, u64),

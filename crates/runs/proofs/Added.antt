@@ -24,7 +24,7 @@ use Rattle.runs.proofs.Scans.{entry_at, sound_short}
 use Rattle.runs.proofs.Calls.{sound_of, used-length}
 use Rattle.runs.proofs.Among.{Among, InUse, in_use, is_among}
 use Rattle.runs.proofs.Rising.{one_entry}
-use Rattle.runs.proofs.Inserted.{length_same, length_more, insert_order, insert_in, insert_keeps, insert_back, insert-total_new, insert-total_same}
+use Rattle.runs.proofs.Inserted.{length_same, length_more, insert_order, insert_in, insert_keeps, insert_back, insert_total_new, insert_total_same}
 
 -- what an accepted answer tells of the list and of the run
 pub record Takes (a : Ace) (e : Entry) : Type 0 where
@@ -85,12 +85,12 @@ module _ (a : Ace) (e : Entry) (l : length a.entries ≡ 32) where
   used-after vs q = ap used (after vs q) ∙ take-append_seam (insert e (used a)) (drop (length (insert e (used a))) a.entries)
 
   -- and after a refused one
-  pub refusal-leaves : (number place : ℕ) → add_answer a e ≡ refused number place → list_after a e ≡ a
-  refusal-leaves n k q = ap (λ (t : Told). added_to t a e) q
+  pub refusal_leaves : (number place : ℕ) → add_answer a e ≡ refused number place → list_after a e ≡ a
+  refusal_leaves n k q = ap (λ (t : Told). added_to t a e) q
 
   by-told : (t : Told) → add_answer a e ≡ t → length (list_after a e).entries ≡ 32
   by-told (accepted vs) q = ap (λ (b : Ace). length b.entries) (after vs q) ∙ whole (insert e (used a)) a.entries l (within a e l (takes_of a e vs q))
-  by-told (refused n k) q = ap (λ (b : Ace). length b.entries) (refusal-leaves n k q) ∙ l
+  by-told (refused n k) q = ap (λ (b : Ace). length b.entries) (refusal_leaves n k q) ∙ l
 
   pub length-after : length (list_after a e).entries ≡ 32
   length-after = by-told (add_answer a e) refl
@@ -103,7 +103,7 @@ module _ (a : Ace) (e : Entry) (l : length a.entries ≡ 32) where
       sym (sound_short (list_after a e) (few-after vs q))
       ∙ ap (in_order 0) (used-after vs q)
       ∙ insert_order e (used a) 0 (takes_of a e vs q).counts (omega arith) (sound_of a s).order
-  sound-told (refused n k) q s = ap sound_list (refusal-leaves n k q) ∙ s
+  sound-told (refused n k) q s = ap sound_list (refusal_leaves n k q) ∙ s
 
   -- a sound list stays sound, whatever is answered
   pub sound-after : sound_list a ≡ true → sound_list (list_after a e) ≡ true
@@ -120,19 +120,19 @@ module _ (a : Ace) (e : Entry) (l : length a.entries ≡ 32) where
     from-after x m = subst (Among x) (used-after vs q) (is_among (list_after a e) x length-after (few-after vs q) m)
 
     -- the run is in use, with its counts
-    pub added-in-use : InUse e (list_after a e)
-    added-in-use = to-after e (insert_in e (used a))
+    pub added_in_use : InUse e (list_after a e)
+    added_in_use = to-after e (insert_in e (used a))
 
     -- and is the only one with its clock
-    pub added-alone : (x : Entry) → InUse x (list_after a e) → x.clk ≡ e.clk → x ≡ e
-    added-alone x m k = one_entry (list_after a e) length-after (sound-after (takes_of a e vs q).sound) x e m added-in-use k
+    pub added_alone : (x : Entry) → InUse x (list_after a e) → x.clk ≡ e.clk → x ≡ e
+    added_alone x m k = one_entry (list_after a e) length-after (sound-after (takes_of a e vs q).sound) x e m added_in_use k
 
     -- every run of another clock stays in use, and no other comes into use
-    pub others-stay : (x : Entry) → (x.clk ≡ e.clk → ⊥) → InUse x a → InUse x (list_after a e)
-    others-stay x n m = to-after x (insert_keeps x e (used a) n (is_among a x l few m))
+    pub others_stay : (x : Entry) → (x.clk ≡ e.clk → ⊥) → InUse x a → InUse x (list_after a e)
+    others_stay x n m = to-after x (insert_keeps x e (used a) n (is_among a x l few m))
 
-    pub others-were : (x : Entry) → (x.clk ≡ e.clk → ⊥) → InUse x (list_after a e) → InUse x a
-    others-were x n m = in_use a x l few (insert_back x e (used a) n (from-after x m))
+    pub others_were : (x : Entry) → (x.clk ≡ e.clk → ⊥) → InUse x (list_after a e) → InUse x a
+    others_were x n m = in_use a x l few (insert_back x e (used a) n (from-after x m))
 
     -- the number of runs: one more, or as it was where the clock was there
     pub one_more : has_clock e.clk (used a) ≡ false → (list_after a e).len ≡ a.len + 1
@@ -150,19 +150,19 @@ module _ (a : Ace) (e : Entry) (l : length a.entries ≡ 32) where
         omega arith
 
     -- the total: with the new rows, and without those of the run that is replaced
-    pub total-new : has_clock e.clk (used a) ≡ false → total (used (list_after a e)) ≡ total (used a) + rows_of e
-    total-new h = ap total (used-after vs q) ∙ insert-total_new e (used a) h
+    pub total_new : has_clock e.clk (used a) ≡ false → total (used (list_after a e)) ≡ total (used a) + rows_of e
+    total_new h = ap total (used-after vs q) ∙ insert_total_new e (used a) h
 
     pub total-replaced : (x : Entry) → InUse x a → x.clk ≡ e.clk → total (used (list_after a e)) + rows_of x ≡ total (used a) + rows_of e
     total-replaced x m k =
-        let i = insert-total_same e x (used a) 0 (sound_of a (takes_of a e vs q).sound).order (is_among a x l few m) k in
+        let i = insert_total_same e x (used a) 0 (sound_of a (takes_of a e vs q).sound).order (is_among a x l few m) k in
         let w = ap total (used-after vs q) in
         omega arith
 
   -- entries past the length stay as they were, whatever is answered
   past-told : (t : Told) → add_answer a e ≡ t → (i : ℕ) → (list_after a e).len ≤ i → entry_at (list_after a e) i ≡ entry_at a i
   past-told (accepted vs) q i h = ap (λ (b : Ace). entry_at b i) (after vs q) ∙ past (insert e (used a)) a.entries i (let w = ap (λ (b : Ace). b.len) (after vs q) in omega arith)
-  past-told (refused n k) q i h = ap (λ (b : Ace). entry_at b i) (refusal-leaves n k q)
+  past-told (refused n k) q i h = ap (λ (b : Ace). entry_at b i) (refusal_leaves n k q)
 
-  pub past-stays : (i : ℕ) → (list_after a e).len ≤ i → entry_at (list_after a e) i ≡ entry_at a i
-  past-stays = past-told (add_answer a e) refl
+  pub past_stays : (i : ℕ) → (list_after a e).len ≤ i → entry_at (list_after a e) i ≡ entry_at a i
+  past_stays = past-told (add_answer a e) refl

@@ -18,7 +18,7 @@ use Rattle.runs.proofs.Orders.{first_of, total_nil}
 use Rattle.runs.proofs.Places.{place_later, place_here}
 use Rattle.runs.proofs.Scans.{entry_at, total_more}
 use Rattle.runs.proofs.Calls.{sound_of, used-length, total-before}
-use Rattle.runs.proofs.Ways.{total-given, row-known, row-unknown}
+use Rattle.runs.proofs.Ways.{total_given, row_known, row_unknown}
 use Rattle.runs.proofs.Among.{InUse, is_among, in_use, has_among, among_has}
 use Rattle.runs.proofs.Rising.{clocks_from}
 
@@ -58,19 +58,19 @@ module _ (a : Ace) (l : length a.entries ≡ 32) (q : sound_list a ≡ true) whe
       ∙ ap (λ (k : ℕ). total (take k a.entries)) h
 
   -- what the calls answer
-  pub total-answer : total_answer a ≡ accepted (total (used a) ∷ [])
-  total-answer = sym (total-given a (total (used a)) q refl)
+  pub total_answer_lem : total_answer a ≡ accepted (total (used a) ∷ [])
+  total_answer_lem = sym (total_given a (total (used a)) q refl)
 
   has-answer : (clock : ℕ) → has_clock clock (used a) ≡ true → first_row_answer a clock ≡ accepted (rows_before clock (used a) ∷ [])
-  has-answer clock h = sym (row-known a clock q h)
+  has-answer clock h = sym (row_known a clock q h)
 
-  pub row-answer : (x : Entry) → InUse x a → first_row_answer a x.clk ≡ accepted (rows_before x.clk (used a) ∷ [])
-  row-answer x m = has-answer x.clk (has_among (used a) x x.clk refl (is_among a x l (sound_of a q).few m))
+  pub row_answer : (x : Entry) → InUse x a → first_row_answer a x.clk ≡ accepted (rows_before x.clk (used a) ∷ [])
+  row_answer x m = has-answer x.clk (has_among (used a) x x.clk refl (is_among a x l (sound_of a q).few m))
 
   by-has : (b : Bool) (clock : ℕ) → has_clock clock (used a) ≡ b → ((x : Entry) → InUse x a → x.clk ≡ clock → ⊥) → first_row_answer a clock ≡ refused 26 0
   by-has true clock h n = let p = among_has (used a) clock h in absurd (n p.0 (in_use a p.0 l (sound_of a q).few p.1) p.2)
-  by-has false clock h n = sym (row-unknown a clock q h)
+  by-has false clock h n = sym (row_unknown a clock q h)
 
   -- "or 26": exactly where no run in use has the clock
-  pub row-none : (clock : ℕ) → ((x : Entry) → InUse x a → x.clk ≡ clock → ⊥) → first_row_answer a clock ≡ refused 26 0
-  row-none clock n = by-has (has_clock clock (used a)) clock refl n
+  pub row_none : (clock : ℕ) → ((x : Entry) → InUse x a → x.clk ≡ clock → ⊥) → first_row_answer a clock ≡ refused 26 0
+  row_none clock n = by-has (has_clock clock (used a)) clock refl n

@@ -12,8 +12,8 @@ use Rattle.runs.specs.declared.Ace.{Ace}
 use Rattle.runs.specs.Entries.{rows_before, insert}
 use Rattle.runs.specs.Calls.{used, add_answer, first_row_answer, list_after}
 use Rattle.runs.proofs.Orders.{compare, before_less, before_not, insert_nil, insert_later, insert_same, insert-here}
-use Rattle.runs.proofs.Added.{takes_of, used-after, length-after, sound-after, added-in-use}
-use Rattle.runs.proofs.FirstRows.{row-answer}
+use Rattle.runs.proofs.Added.{takes_of, used-after, length-after, sound-after, added_in_use}
+use Rattle.runs.proofs.FirstRows.{row_answer}
 
 before-insert : (e : Entry) (es : List Entry) → rows_before e.clk (insert e es) ≡ rows_before e.clk es
 before-insert e [] = ap (rows_before e.clk) (insert_nil e) ∙ before_not e.clk e [] (omega arith)
@@ -34,5 +34,5 @@ before-insert e (x ∷ xs) =
 pub added_row : (a : Ace) (e : Entry) (vs : List ℕ) → length a.entries ≡ 32 → add_answer a e ≡ accepted vs
     → first_row_answer (list_after a e) e.clk ≡ accepted (rows_before e.clk (used a) ∷ [])
 added_row a e vs l q =
-    row-answer (list_after a e) (length-after a e l) (sound-after a e l (takes_of a e vs q).sound) e (added-in-use a e l vs q)
+    row_answer (list_after a e) (length-after a e l) (sound-after a e l (takes_of a e vs q).sound) e (added_in_use a e l vs q)
     ∙ ap (λ (n : ℕ). accepted (n ∷ [])) (ap (rows_before e.clk) (used-after a e l vs q) ∙ before-insert e (used a))

@@ -101,17 +101,17 @@ insert_back x e (y ∷ ys) n m =
     (compare y.clk e.clk)
 
 -- how many rows they have
-pub insert-total_new : (e : Entry) (es : List Entry) → has_clock e.clk es ≡ false → total (insert e es) ≡ total es + rows_of e
-insert-total_new e [] q =
+pub insert_total_new : (e : Entry) (es : List Entry) → has_clock e.clk es ≡ false → total (insert e es) ≡ total es + rows_of e
+insert_total_new e [] q =
     let t = total_cons e [] in
     let z = total_nil in
     let s : total (e ∷ []) ≡ total [] + rows_of e = omega arith in
     ap total (insert_nil e) ∙ s
-insert-total_new e (x ∷ xs) q =
+insert_total_new e (x ∷ xs) q =
     let t = total_cons x xs in
     ⊎_elim
     (λ (h : x.clk < e.clk).
-    let i = insert-total_new e xs (sym (has_later e.clk x xs (λ z. omega arith)) ∙ q) in
+    let i = insert_total_new e xs (sym (has_later e.clk x xs (λ z. omega arith)) ∙ q) in
     let u = total_cons x (insert e xs) in
     let s : total (x ∷ insert e xs) ≡ total (x ∷ xs) + rows_of e = omega arith in
     ap total (insert_later e x xs h) ∙ s)
@@ -123,10 +123,10 @@ insert-total_new e (x ∷ xs) q =
     ap total (insert-here e x xs h) ∙ s))
     (compare x.clk e.clk)
 
-pub insert-total_same : (e x : Entry) (es : List Entry) (least : ℕ) → in_order least es ≡ true → Among x es → x.clk ≡ e.clk
+pub insert_total_same : (e x : Entry) (es : List Entry) (least : ℕ) → in_order least es ≡ true → Among x es → x.clk ≡ e.clk
     → total (insert e es) + rows_of x ≡ total es + rows_of e
-insert-total_same e x [] least q m k = absurd m
-insert-total_same e x (y ∷ ys) least q m k =
+insert_total_same e x [] least q m k = absurd m
+insert_total_same e x (y ∷ ys) least q m k =
     let t = total_cons y ys in
     ⊎_elim
     (λ (w : x ≡ y).
@@ -136,7 +136,7 @@ insert-total_same e x (y ∷ ys) least q m k =
     omega arith)
     (λ (n : Among x ys).
     let h = clock_after y ys least x q n in
-    let j = insert-total_same e x ys (suc y.clk) (first_of least y ys q).rest n k in
+    let j = insert_total_same e x ys (suc y.clk) (first_of least y ys q).rest n k in
     let u = total_cons y (insert e ys) in
     let i = ap total (insert_later e y ys (omega arith)) in
     omega arith)

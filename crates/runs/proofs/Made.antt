@@ -30,11 +30,11 @@ made_sound es a l z = (added_all_lem es a l (empty-sound a z)).1
 
 -- so no call gives 13
 module _ (es : List Entry) (a : Ace) (l : length a.entries ≡ 32) (z : a.len ≡ 0) where
-  pub total-of-made : is_thirteen (total_answer (added_all es a)) ≡ false
-  total-of-made = total-thirteen (added_all es a) ∙ ap not (made_sound es a l z)
+  pub total_of_made : is_thirteen (total_answer (added_all es a)) ≡ false
+  total_of_made = total-thirteen (added_all es a) ∙ ap not (made_sound es a l z)
 
-  pub row-of-made : (clock : ℕ) → is_thirteen (first_row_answer (added_all es a) clock) ≡ false
-  row-of-made clock = row-thirteen (added_all es a) clock ∙ ap not (made_sound es a l z)
+  pub row_of_made : (clock : ℕ) → is_thirteen (first_row_answer (added_all es a) clock) ≡ false
+  row_of_made clock = row-thirteen (added_all es a) clock ∙ ap not (made_sound es a l z)
 
-  pub add-to-made : (e : Entry) → is_thirteen (add_answer (added_all es a) e) ≡ false
-  add-to-made e = add_thirteen (added_all es a) e ∙ ap not (made_sound es a l z)
+  pub add_to_made : (e : Entry) → is_thirteen (add_answer (added_all es a) e) ≡ false
+  add_to_made e = add_thirteen (added_all es a) e ∙ ap not (made_sound es a l z)

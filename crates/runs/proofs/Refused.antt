@@ -17,7 +17,7 @@ use Rattle.runs.specs.declared.Ace.{Ace}
 use Rattle.runs.specs.Entries.{opens, total, rows_before, has_clock}
 use Rattle.runs.specs.Calls.{most_runs, used, sound_list, total_answer, first_row_answer, add_answer}
 use Rattle.runs.proofs.Calls.{sound_of}
-use Rattle.runs.proofs.Ways.{add-counted, add-full, add-taken}
+use Rattle.runs.proofs.Ways.{add_counted, add_full, add_taken}
 
 abbrev pub is_thirteen : Told → Bool
 is_thirteen (accepted vs) = false
@@ -64,20 +64,20 @@ counted_is e o =
 
 module _ (a : Ace) (e : Entry) (s : sound_list a ≡ true) where
   -- "adding: then 1, 2, 3 as for opening"
-  pub counts-refused : (number place : ℕ) → of_counts most_wires e.num_read e.num_eval (accepted []) ≡ refused number place → add_answer a e ≡ refused number place
-  counts-refused n k q = sym (add-counted a e n k s (sym q))
+  pub counts_refused : (number place : ℕ) → of_counts most_wires e.num_read e.num_eval (accepted []) ≡ refused number place → add_answer a e ≡ refused number place
+  counts_refused n k q = sym (add_counted a e n k s (sym q))
 
   module _ (o : opens e ≡ true) where
     -- "25 (32 other clocks)"
-    pub full-refused : a.len ≡ most_runs → has_clock e.clk (used a) ≡ false → add_answer a e ≡ refused 25 0
-    full-refused h n = sym (add-full a e s (counted_is e o) n (omega arith))
+    pub full_refused : a.len ≡ most_runs → has_clock e.clk (used a) ≡ false → add_answer a e ≡ refused 25 0
+    full_refused h n = sym (add_full a e s (counted_is e o) n (omega arith))
 
     -- "adding an equal clock replaces that entry, full or not"
-    pub equal-taken : has_clock e.clk (used a) ≡ true → add_answer a e ≡ accepted []
-    equal-taken h = sym (add-taken a e s (counted_is e o) (inr h))
+    pub equal_taken : has_clock e.clk (used a) ≡ true → add_answer a e ≡ accepted []
+    equal_taken h = sym (add_taken a e s (counted_is e o) (inr h))
 
-    pub room-taken : a.len < most_runs → add_answer a e ≡ accepted []
-    room-taken h = sym (add-taken a e s (counted_is e o) (inl (lt-ltb a.len most_runs h)))
+    pub room_taken : a.len < most_runs → add_answer a e ≡ accepted []
+    room_taken h = sym (add_taken a e s (counted_is e o) (inl (lt-ltb a.len most_runs h)))
 
 -- the number of a refusal
 abbrev number : Told → ℕ

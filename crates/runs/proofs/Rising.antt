@@ -111,9 +111,9 @@ module _ (a : Ace) (l : length a.entries ≡ 32) where
         same_entry (used a) 0 x y s.order (is_among a x l s.few m) (is_among a y l s.few n) e
 
   -- and where all this holds of at most 32 entries the list is sound: nothing else gives 13
-  pub sound-by : a.len ≤ most_runs → ((i j : ℕ) → i < j → j < a.len → (entry_at a i).clk < (entry_at a j).clk) → ((i : ℕ) → i < a.len → opens (entry_at a i) ≡ true)
+  pub sound_by : a.len ≤ most_runs → ((i j : ℕ) → i < j → j < a.len → (entry_at a i).clk < (entry_at a j).clk) → ((i : ℕ) → i < a.len → opens (entry_at a i) ≡ true)
       → sound_list a ≡ true
-  sound-by few r o =
+  sound_by few r o =
       let z = used-length a l few in
       sym (sound_short a few)
       ∙ order_by (used a) 0

@@ -36,22 +36,22 @@ counts_else most r e t =
 
 module _ (a : Ace) where
   -- the total
-  pub total-refused : sound_list a ≡ false → refused 13 0 ≡ total_answer a
+  pub total_refused : sound_list a ≡ false → refused 13 0 ≡ total_answer a
   unfolding total_answer
-  total-refused q = sym (other (sound_list a) (accepted (total (used a) ∷ [])) (refused 13 0) q)
+  total_refused q = sym (other (sound_list a) (accepted (total (used a) ∷ [])) (refused 13 0) q)
 
-  pub total-given : (rows : ℕ) → sound_list a ≡ true → rows ≡ total (used a) → accepted (rows ∷ []) ≡ total_answer a
+  pub total_given : (rows : ℕ) → sound_list a ≡ true → rows ≡ total (used a) → accepted (rows ∷ []) ≡ total_answer a
   unfolding total_answer
-  total-given rows q e = ap (λ (n : ℕ). accepted (n ∷ [])) e ∙ sym (chosen (sound_list a) (accepted (total (used a) ∷ [])) (refused 13 0) q)
+  total_given rows q e = ap (λ (n : ℕ). accepted (n ∷ [])) e ∙ sym (chosen (sound_list a) (accepted (total (used a) ∷ [])) (refused 13 0) q)
 
   -- the first row of a clock
   module _ (clock : ℕ) where
     abbrev asked : Told
     asked = cond (has_clock clock (used a)) (accepted (rows_before clock (used a) ∷ [])) (refused 26 0)
 
-    pub row-refused : sound_list a ≡ false → refused 13 0 ≡ first_row_answer a clock
+    pub row_refused : sound_list a ≡ false → refused 13 0 ≡ first_row_answer a clock
     unfolding first_row_answer
-    row-refused q = sym (other (sound_list a) asked (refused 13 0) q)
+    row_refused q = sym (other (sound_list a) asked (refused 13 0) q)
 
     row-asked : sound_list a ≡ true → first_row_answer a clock ≡ asked
     unfolding first_row_answer
@@ -60,21 +60,21 @@ module _ (a : Ace) where
     has-is : (at : ℕ) (b : Bool) → b ≡ is_at a at clock → at ≡ place_of clock (used a) → length a.entries ≡ 32 → sound_list a ≡ true → has_clock clock (used a) ≡ b
     has-is at b e p l q = sym (e ∙ ap (λ (k : ℕ). is_at a k clock) p ∙ at_has a clock l (sound_of a q))
 
-    pub row-unknown : sound_list a ≡ true → has_clock clock (used a) ≡ false → refused 26 0 ≡ first_row_answer a clock
-    row-unknown q h = sym (row-asked q ∙ other (has_clock clock (used a)) (accepted (rows_before clock (used a) ∷ [])) (refused 26 0) h)
+    pub row_unknown : sound_list a ≡ true → has_clock clock (used a) ≡ false → refused 26 0 ≡ first_row_answer a clock
+    row_unknown q h = sym (row-asked q ∙ other (has_clock clock (used a)) (accepted (rows_before clock (used a) ∷ [])) (refused 26 0) h)
 
-    pub row-known : sound_list a ≡ true → has_clock clock (used a) ≡ true → accepted (rows_before clock (used a) ∷ []) ≡ first_row_answer a clock
-    row-known q h = sym (row-asked q ∙ chosen (has_clock clock (used a)) (accepted (rows_before clock (used a) ∷ [])) (refused 26 0) h)
+    pub row_known : sound_list a ≡ true → has_clock clock (used a) ≡ true → accepted (rows_before clock (used a) ∷ []) ≡ first_row_answer a clock
+    row_known q h = sym (row-asked q ∙ chosen (has_clock clock (used a)) (accepted (rows_before clock (used a) ∷ [])) (refused 26 0) h)
 
-    pub row-missing : (at : ℕ) (b : Bool) → b ≡ is_at a at clock → at ≡ place_of clock (used a) → length a.entries ≡ 32 → sound_list a ≡ true → b ≡ false
+    pub row_missing : (at : ℕ) (b : Bool) → b ≡ is_at a at clock → at ≡ place_of clock (used a) → length a.entries ≡ 32 → sound_list a ≡ true → b ≡ false
         → refused 26 0 ≡ first_row_answer a clock
-    row-missing at b e p l q n = row-unknown q (has-is at b e p l q ∙ n)
+    row_missing at b e p l q n = row_unknown q (has-is at b e p l q ∙ n)
 
-    pub row-given : (at : ℕ) (b : Bool) (rows : ℕ) → b ≡ is_at a at clock → at ≡ place_of clock (used a) → rows ≡ total (take at a.entries) → length a.entries ≡ 32
+    pub row_given : (at : ℕ) (b : Bool) (rows : ℕ) → b ≡ is_at a at clock → at ≡ place_of clock (used a) → rows ≡ total (take at a.entries) → length a.entries ≡ 32
         → sound_list a ≡ true → b ≡ true → accepted (rows ∷ []) ≡ first_row_answer a clock
-    row-given at b rows e p t l q y =
+    row_given at b rows e p t l q y =
         ap (λ (n : ℕ). accepted (n ∷ [])) (t ∙ ap (λ (k : ℕ). total (take k a.entries)) p ∙ total-before a clock l (sound_of a q))
-        ∙ row-known q (has-is at b e p l q ∙ y)
+        ∙ row_known q (has-is at b e p l q ∙ y)
 
   -- a run added
   module _ (e : Entry) where
@@ -88,29 +88,29 @@ module _ (a : Ace) where
     unfolding add_answer
     add-asked q = chosen (sound_list a) (of_counts most_wires e.num_read e.num_eval roomed) (refused 13 0) q ∙ counts_else most_wires e.num_read e.num_eval roomed
 
-    pub add-refused : sound_list a ≡ false → refused 13 0 ≡ add_answer a e
+    pub add_refused : sound_list a ≡ false → refused 13 0 ≡ add_answer a e
     unfolding add_answer
-    add-refused q = sym (other (sound_list a) (of_counts most_wires e.num_read e.num_eval roomed) (refused 13 0) q)
+    add_refused q = sym (other (sound_list a) (of_counts most_wires e.num_read e.num_eval roomed) (refused 13 0) q)
 
-    pub add-counted : (number place : ℕ) → sound_list a ≡ true → refused number place ≡ counted → refused number place ≡ add_answer a e
-    add-counted n k q r = ap (λ (t : Told). or_else t roomed) r ∙ sym (add-asked q)
+    pub add_counted : (number place : ℕ) → sound_list a ≡ true → refused number place ≡ counted → refused number place ≡ add_answer a e
+    add_counted n k q r = ap (λ (t : Told). or_else t roomed) r ∙ sym (add-asked q)
 
     add-roomed : sound_list a ≡ true → accepted [] ≡ counted → roomed ≡ add_answer a e
     add-roomed q r = ap (λ (t : Told). or_else t roomed) r ∙ sym (add-asked q)
 
-    pub add-full : sound_list a ≡ true → accepted [] ≡ counted → has_clock e.clk (used a) ≡ false → most_runs ≤ a.len → refused 25 0 ≡ add_answer a e
-    add-full q r n h =
+    pub add_full : sound_list a ≡ true → accepted [] ≡ counted → has_clock e.clk (used a) ≡ false → most_runs ≤ a.len → refused 25 0 ≡ add_answer a e
+    add_full q r n h =
         sym (other (ltb a.len most_runs || has_clock e.clk (used a)) (accepted []) (refused 25 0) (ap₂ ◌||◌ (le-ltb a.len most_runs h) n))
         ∙ add-roomed q r
 
-    pub add-taken : sound_list a ≡ true → accepted [] ≡ counted → (ltb a.len most_runs ≡ true) ⊎ (has_clock e.clk (used a) ≡ true) → accepted [] ≡ add_answer a e
-    add-taken q r h =
+    pub add_taken : sound_list a ≡ true → accepted [] ≡ counted → (ltb a.len most_runs ≡ true) ⊎ (has_clock e.clk (used a) ≡ true) → accepted [] ≡ add_answer a e
+    add_taken q r h =
         sym (chosen (ltb a.len most_runs || has_clock e.clk (used a)) (accepted []) (refused 25 0) (either_holds (ltb a.len most_runs) (has_clock e.clk (used a)) h))
         ∙ add-roomed q r
 
     -- and the list after it
-    pub list-stays : (number place : ℕ) → refused number place ≡ add_answer a e → a ≡ list_after a e
-    list-stays n k q = ap (λ (t : Told). added_to t a e) q
+    pub list_stays : (number place : ℕ) → refused number place ≡ add_answer a e → a ≡ list_after a e
+    list_stays n k q = ap (λ (t : Told). added_to t a e) q
 
     list-grows : accepted [] ≡ add_answer a e → with_used a (insert e (used a)) ≡ list_after a e
     list-grows q = ap (λ (t : Told). added_to t a e) q
@@ -119,23 +119,23 @@ module _ (a : Ace) where
       at_place : (v : Bool) → b ≡ v → is_at a (place_of e.clk (used a)) e.clk ≡ v
       at_place v y = sym (i ∙ ap (λ (k : ℕ). is_at a k e.clk) p) ∙ y
 
-      pub taken-replaced : b ≡ true → accepted [] ≡ add_answer a e
-      taken-replaced y = add-taken q r (inr (sym (at_has a e.clk l (sound_of a q)) ∙ at_place true y))
+      pub taken_replaced : b ≡ true → accepted [] ≡ add_answer a e
+      taken_replaced y = add_taken q r (inr (sym (at_has a e.clk l (sound_of a q)) ∙ at_place true y))
 
       pub list-replaced : b ≡ true → replaced a at e ≡ list_after a e
       list-replaced y =
           ap (λ (k : ℕ). replaced a k e) p
           ∙ replaced_is a e l (sound_of a q) (at_place true y)
-          ∙ list-grows (taken-replaced y)
+          ∙ list-grows (taken_replaced y)
 
-      pub full-refused : b ≡ false → a.len ≡ most_runs → refused 25 0 ≡ add_answer a e
-      full-refused y h = add-full q r (sym (at_has a e.clk l (sound_of a q)) ∙ at_place false y) (omega arith)
+      pub full_refused : b ≡ false → a.len ≡ most_runs → refused 25 0 ≡ add_answer a e
+      full_refused y h = add_full q r (sym (at_has a e.clk l (sound_of a q)) ∙ at_place false y) (omega arith)
 
-      pub taken-opened : (a.len ≡ most_runs → ⊥) → accepted [] ≡ add_answer a e
-      taken-opened n = let h = (sound_of a q).few in add-taken q r (inl (lt-ltb a.len most_runs (omega arith)))
+      pub taken_opened : (a.len ≡ most_runs → ⊥) → accepted [] ≡ add_answer a e
+      taken_opened n = let h = (sound_of a q).few in add_taken q r (inl (lt-ltb a.len most_runs (omega arith)))
 
       pub list-opened : b ≡ false → (a.len ≡ most_runs → ⊥) → opened_at a at e ≡ list_after a e
       list-opened y n =
           ap (λ (k : ℕ). opened_at a k e) p
           ∙ opened_is a e l (sound_of a q) (at_place false y)
-          ∙ list-grows (taken-opened n)
+          ∙ list-grows (taken_opened n)

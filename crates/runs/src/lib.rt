@@ -17,35 +17,35 @@ pub const LIST_FULL: u32 = 25;
 
 pub const NO_SUCH_CLOCK: u32 = 26;
 
-#[derive(Drop)]
+#[derive(Clone, Copy)]
 pub struct Entry {
     pub clk: u32,
     pub num_read: u32,
     pub num_eval: u32,
 }
 
-#[derive(Drop)]
+#[derive(Clone, Copy)]
 pub struct Ace {
     pub entries: [Entry; 32],
     pub len: u32,
 }
 
 // A number of rows, or the refusal's number and place.
-#[derive(Drop)]
+#[derive(Clone, Copy)]
 pub enum RowsAnswer {
     Rows(u64),
     Refused(u32, u64),
 }
 
 // That the run is in the list, or the refusal's number and place.
-#[derive(Drop)]
+#[derive(Clone, Copy)]
 pub enum AddAnswer {
     Added,
     Refused(u32, u64),
 }
 
 // The list as it is given back, and the answer.
-#[derive(Drop)]
+#[derive(Clone, Copy)]
 pub struct AddOutcome {
     pub list: Ace,
     pub answer: AddAnswer,

@@ -177,9 +177,9 @@ module _ (s : CircuitEvaluation) (ptr word : ℕ) (b : Lent) where
         left = operand_passed 9 s (left_id word) b ls l;
       }
 
-  pub left-taken : left_counted s ptr word b ≡ true → LeftTaken s ptr word b
+  pub left_taken : left_counted s ptr word b ≡ true → LeftTaken s ptr word b
   unfolding left_counted
-  left-taken e =
+  left_taken e =
       let a = both _ _ e in
       let d = both _ _ a.1 in
       let vs = told_accepted _ a.0 in
@@ -195,7 +195,7 @@ module _ (s : CircuitEvaluation) (ptr word : ℕ) (b : Lent) where
 
   first_stops : (n k : ℕ) → eval_tests s (fits s b) ptr word ≡ refused n k → EvalRefused s ptr word b
   unfolding left_counted
-  first_stops n k e = left-not-counted n k (sym (ways.eval-refused s ptr word b n k (sym e))) (rw e)
+  first_stops n k e = left-not-counted n k (sym (ways.eval_refused s ptr word b n k (sym e))) (rw e)
 
   word-stops : (vs : List ℕ) (n k : ℕ) → eval_tests s (fits s b) ptr word ≡ accepted vs → at_gate s.evals_done (decode_answer word) ≡ refused n k → is_accepted (decode_answer word) ≡ false
       → EvalRefused s ptr word b
@@ -241,24 +241,24 @@ module _ (s : CircuitEvaluation) (ptr word : ℕ) (b : Lent) where
       (λ (r : (n : ℕ) × (at_gate s.evals_done (decode_answer word) ≡ refused n s.evals_done) × (is_accepted (decode_answer word) ≡ false)). inr (word-stops vs r.0 _ e r.1 r.2))
       (at_gate_lem s.evals_done (decode_answer word))
 
-  pub eval-cases : EvalAccepted s ptr word b ⊎ EvalRefused s ptr word b
-  eval-cases =
+  pub eval_cases : EvalAccepted s ptr word b ⊎ EvalRefused s ptr word b
+  eval_cases =
       ⊎_elim
       (λ (a : (vs : List ℕ) × (eval_tests s (fits s b) ptr word ≡ accepted vs)). at-word a.0 a.1)
       (λ (r : (n : ℕ) × (k : ℕ) × (eval_tests s (fits s b) ptr word ≡ refused n k)). inr (first_stops r.0 r.1 r.2))
       (told? (eval_tests s (fits s b) ptr word))
 
-  pub eval-accepted : (vs : List ℕ) → (eval_step s ptr word b).told ≡ accepted vs → EvalAccepted s ptr word b
-  eval-accepted vs e =
+  pub eval_accepted : (vs : List ℕ) → (eval_step s ptr word b).told ≡ accepted vs → EvalAccepted s ptr word b
+  eval_accepted vs e =
       ⊎_elim
       (λ (a : EvalAccepted s ptr word b). a)
       (λ (r : EvalRefused s ptr word b). clash (sym (tells r.leaves) ∙ e))
-      eval-cases
+      eval_cases
 
-  pub eval-refused : (n k : ℕ) → (eval_step s ptr word b).told ≡ refused n k
+  pub eval_refused : (n k : ℕ) → (eval_step s ptr word b).told ≡ refused n k
       → eval_step s ptr word b ≡ outcome (refused n k) s (cond (left_counted s ptr word b) (counted s (left_id word) b) b)
-  eval-refused n k e =
+  eval_refused n k e =
       ⊎_elim
       (λ (a : EvalAccepted s ptr word b). clash (sym e ∙ tells a.leaves))
       (λ (r : EvalRefused s ptr word b). r.leaves ∙ ap (λ (t : Told). outcome t s (cond (left_counted s ptr word b) (counted s (left_id word) b) b)) (sym (tells r.leaves) ∙ e))
-      eval-cases
+      eval_cases

@@ -21,7 +21,7 @@ use Rattle.trace.specs.Outcome.{Lent, Outcome, lent, step_outcome}
 use Rattle.trace.specs.Open.{open_told}
 use Rattle.trace.specs.Output.{output_told, header_numbers, header_of}
 use Rattle.trace.specs.Record.{tested_told, header_told, finalized_answer}
-use Rattle.trace.proofs.Records.{finalized-of}
+use Rattle.trace.proofs.Records.{finalized_of}
 
 -- the answer that tells this
 abbrev opens : Told → OpenAnswer
@@ -119,4 +119,4 @@ same_header h k e = ap headed e
 
 pub finalized_header : (h : RecordHeader) (s : CircuitEvaluation) → accepted (header_numbers h) ≡ finalized_answer s → h ≡ header_of s
 finalized_header h s e =
-    same_header h (header_of s) (ap told (sym (finalized-of s (accepted (header_numbers (header_of s))) (header_numbers h) (sym e)).2))
+    same_header h (header_of s) (ap told (sym (finalized_of s (accepted (header_numbers (header_of s))) (header_numbers h) (sym e)).2))

@@ -20,10 +20,10 @@ use Rattle.trace.specs.Eval.{position, value_of, combine, eval_op, eval_node, ev
 use Rattle.trace.proofs.Tests.{Sound}
 use Rattle.trace.proofs.NextId.{next_lacking, next_none}
 use Rattle.trace.proofs.Stores.{sets_below, sets_above, sets_in}
-use Rattle.trace.proofs.Accepted.{read_accepted, eval-accepted}
+use Rattle.trace.proofs.Accepted.{read_accepted, eval_accepted}
 use Rattle.trace.proofs.Reached.{no_gate_yet}
 
--- ---- "ids are given downwards from num_wires - 1 to 0", on every state that opening and calls give (`reached-ready`)
+-- ---- "ids are given downwards from num_wires - 1 to 0", on every state that opening and calls give (`reached_ready`)
 
 pub id_lacking : (s : CircuitEvaluation) → Sound s → made_of s < wires_of s → s.id_next ≡ wires_of s - 1 - made_of s
 id_lacking s h l = h.next ∙ next_lacking (wires_of s) (made_of s) h.counts.few l
@@ -78,7 +78,7 @@ pub eval_node_lem : (s : CircuitEvaluation) (ptr word : ℕ) (b : Lent) (vs : Li
     → Written b.nodes (eval_step s ptr word b).buffers.nodes (7 * s.num_read + 11 * s.evals_done)
     (eval_node ptr (eval_op (opcode word)) s.id_next (combine (opcode word) (value_of s (left_id word) b) (value_of s (right_id word) b)) (left_id word) (value_of s (left_id word) b) (right_id word) (value_of s (right_id word) b))
 eval_node_lem s ptr word b vs e =
-    let a = eval-accepted s ptr word b vs e in
+    let a = eval_accepted s ptr word b vs e in
     let vl = value_of s (left_id word) b in
     let vr = value_of s (right_id word) b in
     rw a.leaves (written b.nodes (7 * s.num_read + 11 * s.evals_done) (eval_node ptr (eval_op (opcode word)) s.id_next (combine (opcode word) vl vr) (left_id word) vl (right_id word) vr) (omega arith))

@@ -17,7 +17,7 @@ use Rattle.trace.specs.Read.{first_pair, second_pair, read_node}
 use Rattle.trace.specs.Eval.{position, value_of, combine, eval_op, eval_node}
 use Rattle.trace.specs.Calls.{Call, called, calls}
 use Rattle.trace.proofs.Stores.{sets_below, value_below}
-use Rattle.trace.proofs.Runs.{each-call, each-list}
+use Rattle.trace.proofs.Runs.{each_call, each-list}
 use Rattle.trace.proofs.Reached.{no_gate_yet}
 
 -- the node cells that the steps done have written
@@ -37,7 +37,7 @@ none_stored o q s v n = rw (s, v, n) (record { same_wires = refl; more_made = om
 
 call_kept : (c : Call) (o : Outcome) → Kept o (called c o)
 call_kept =
-    each-call (λ c o q. Kept o q)
+    each_call (λ c o q. Kept o q)
     (λ o ptr w a.
     let m = made_of o.state in
     let v₀ = pair_of (first_pair w) in

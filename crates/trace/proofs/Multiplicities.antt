@@ -19,7 +19,7 @@ use Rattle.trace.specs.Eval.{position, raised}
 use Rattle.trace.specs.Calls.{Call, read, eval, called, calls, names, gate_names, call_names, accepteds, left_counted, left_name, call_leaves, left_raised}
 use Rattle.trace.proofs.Choices.{both}
 use Rattle.trace.proofs.Stores.{same?, names_same, names_other, raised_at}
-use Rattle.trace.proofs.Runs.{each-call}
+use Rattle.trace.proofs.Runs.{each_call}
 use Rattle.trace.proofs.Reached.{call_follows, calls_follow, start}
 
 -- ---- one count, by its position
@@ -113,7 +113,7 @@ left_counts m w cs i id h r hi mi hid =
 -- every call, of every state and buffers
 count_called : (c : Call) (o : Outcome) (id : ℕ) → id < wires_of o.state → count_of (called c o) id ≡ count_of o id + adds c o (called c o) id
 count_called =
-    each-call (λ c o q. (id : ℕ) → id < wires_of o.state → count_of q id ≡ count_of o id + adds c o q id)
+    each_call (λ c o q. (id : ℕ) → id < wires_of o.state → count_of q id ≡ count_of o id + adds c o q id)
     (λ o ptr w a id h.
     let f = a.has_room in
     read-counts (made_of o.state) _ (wires_of o.state) o.buffers.counts _ (omega arith) (omega arith) f.for_counts)
@@ -187,10 +187,10 @@ module _ (ctx clk num-read num-eval : ℕ) (b : Lent) where
       omega arith
 
   -- where every call is accepted, it is the number of operands that name it
-  pub all-multiplicities : (cs : List Call) (id : ℕ) → all_accepted cs (start ctx clk num-read num-eval b) ≡ true
+  pub all_multiplicities : (cs : List Call) (id : ℕ) → all_accepted cs (start ctx clk num-read num-eval b) ≡ true
       → id < wires num-read num-eval → position (wires num-read num-eval) id < made_of (calls cs (start ctx clk num-read num-eval b)).state
       → get_or (calls cs (start ctx clk num-read num-eval b)).buffers.counts (position (wires num-read num-eval) id) 0 ≡ named_by cs id
-  all-multiplicities cs id e h m =
+  all_multiplicities cs id e h m =
       let x = multiplicities cs id h m in
       let y = all_named cs (start ctx clk num-read num-eval b) id e in
       omega arith

@@ -16,7 +16,7 @@ use Rattle.trace.specs.Read.{first_pair, second_pair, read_node}
 use Rattle.trace.specs.Eval.{position, raised, value_of, combine, eval_op, eval_node}
 use Rattle.trace.specs.Calls.{Call, called, calls}
 use Rattle.trace.proofs.Stores.{sets_above}
-use Rattle.trace.proofs.Runs.{each-call}
+use Rattle.trace.proofs.Runs.{each_call}
 use Rattle.trace.proofs.Reached.{call_follows}
 
 -- "cells past those used never change"
@@ -37,7 +37,7 @@ node_past ns node at n j h l = sets_above node ns at j (omega arith)
 
 pub call_past : (c : Call) (o : Outcome) → Past o (called c o)
 call_past =
-    each-call (λ c o q. Past o q)
+    each_call (λ c o q. Past o q)
     (λ o ptr w a.
     let m = made_of o.state in
     let v₀ = pair_of (first_pair w) in

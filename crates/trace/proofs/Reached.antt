@@ -22,7 +22,7 @@ use Rattle.trace.proofs.Choices.{both_hold, passes}
 use Rattle.trace.proofs.Tests.{counts_of, Sound, sound_is, Fits, room_of}
 use Rattle.trace.proofs.Accepted.{HasRoom}
 use Rattle.trace.proofs.NextId.{next_later}
-use Rattle.trace.proofs.Runs.{each-call, each-list}
+use Rattle.trace.proofs.Runs.{each_call, each-list}
 
 -- what no call changes: the four numbers handed to opening, and the buffers' lengths
 pub record Follows (o q : Outcome) : Type 0 where
@@ -42,7 +42,7 @@ follows_by o q e₁ e₂ e₃ e₄ e₅ e₆ e₇ = record { same_ctx = e₁; sa
 
 pub call_follows : (c : Call) (o : Outcome) → Follows o (called c o)
 call_follows =
-    each-call (λ c o q. Follows o q)
+    each_call (λ c o q. Follows o q)
     (λ o ptr w a. follows_by o _ refl refl refl refl (simp length-sets) (simp length-set) (simp length-sets))
     (λ o ptr w n k. follows_by o _ refl refl refl refl refl refl refl)
     (λ o ptr word a. follows_by o _ refl refl refl refl (simp length-sets) (simp length-set) (simp length-sets))
@@ -89,7 +89,7 @@ eval_sound s h all_read turn =
 
 pub call_sound : (c : Call) (o : Outcome) → Sound o.state → Sound (called c o).state
 call_sound =
-    each-call (λ c o q. Sound o.state → Sound q.state)
+    each_call (λ c o q. Sound o.state → Sound q.state)
     (λ o ptr w a h. read-sound o.state h a.turn)
     (λ o ptr w n k h. h)
     (λ o ptr word a h. eval_sound o.state h a.taken.all_read a.taken.turn)
@@ -119,9 +119,9 @@ abbrev pub start : ℕ → ℕ → ℕ → ℕ → Lent → Outcome
 start ctx clk num-read num-eval b = outcome (accepted []) (opened ctx clk num-read num-eval) b
 
 module _ (ctx clk num-read num-eval : ℕ) (b : Lent) (vs : List ℕ) (opens : open_answer ctx clk num-read num-eval b ≡ accepted vs) where
-  pub start-ready : Ready (start ctx clk num-read num-eval b)
+  pub start_ready : Ready (start ctx clk num-read num-eval b)
   unfolding open_answer
-  start-ready =
+  start_ready =
       let a = counts_of most_wires num-read num-eval _ vs opens in
       let d = passes (fits (opened ctx clk num-read num-eval) b) _ 6 0 vs a.1 in
       record {
@@ -129,17 +129,17 @@ module _ (ctx clk num-read num-eval : ℕ) (b : Lent) (vs : List ℕ) (opens : o
         has_room = room_of _ _ _ _ _ d.0;
       }
 
-  pub reached-ready : (cs : List Call) → Ready (calls cs (start ctx clk num-read num-eval b))
-  reached-ready cs = each-list Ready call_ready cs (start ctx clk num-read num-eval b) start-ready
+  pub reached_ready : (cs : List Call) → Ready (calls cs (start ctx clk num-read num-eval b))
+  reached_ready cs = each-list Ready call_ready cs (start ctx clk num-read num-eval b) start_ready
 
   -- a state that opening and accepted steps give never gets 13 for its own numbers
-  pub reached-sound : (cs : List Call) → sound (calls cs (start ctx clk num-read num-eval b)).state ≡ true
-  reached-sound cs = sound_is _ (reached-ready cs).is_sound
+  pub reached_sound : (cs : List Call) → sound (calls cs (start ctx clk num-read num-eval b)).state ≡ true
+  reached_sound cs = sound_is _ (reached_ready cs).is_sound
 
   -- nor do buffers that opening found long enough get 6
-  pub reached-fits : (cs : List Call) → fits (calls cs (start ctx clk num-read num-eval b)).state (calls cs (start ctx clk num-read num-eval b)).buffers ≡ true
-  reached-fits cs = room_is _ _ _ _ _ (reached-ready cs).has_room
+  pub reached_fits : (cs : List Call) → fits (calls cs (start ctx clk num-read num-eval b)).state (calls cs (start ctx clk num-read num-eval b)).buffers ≡ true
+  reached_fits cs = room_is _ _ _ _ _ (reached_ready cs).has_room
 
   -- ctx, clk, num_read and num_eval stay as they were handed to opening, and the buffers as long
-  pub reached-follows : (cs : List Call) → Follows (start ctx clk num-read num-eval b) (calls cs (start ctx clk num-read num-eval b))
-  reached-follows cs = calls_follow cs (start ctx clk num-read num-eval b)
+  pub reached_follows : (cs : List Call) → Follows (start ctx clk num-read num-eval b) (calls cs (start ctx clk num-read num-eval b))
+  reached_follows cs = calls_follow cs (start ctx clk num-read num-eval b)

@@ -58,15 +58,15 @@ module _ (h : RecordHeader) (b : Lent) where
   unfolding in_field
   value_out r e l = rw (not_elements (2 * record_wires h) r b.values e l)
 
-  pub node-out : (r : ℕ) → r ≡ 0 + first_over (take (record_cells h - 0) (drop 0 b.nodes)) → r < record_cells h → in_field h b ≡ false
+  pub node_out : (r : ℕ) → r ≡ 0 + first_over (take (record_cells h - 0) (drop 0 b.nodes)) → r < record_cells h → in_field h b ≡ false
   unfolding in_field
-  node-out r e l =
+  node_out r e l =
       second_fails (elements (2 * record_wires h) b.values) (elements (record_cells h) b.nodes && ltb h.id_next p)
       (rw (not_elements (record_cells h) r b.nodes e l))
 
-  pub id-out : p ≤ h.id_next → in_field h b ≡ false
+  pub id_out : p ≤ h.id_next → in_field h b ≡ false
   unfolding in_field
-  id-out l =
+  id_out l =
       second_fails (elements (2 * record_wires h) b.values) (elements (record_cells h) b.nodes && ltb h.id_next p)
       (second_fails (elements (record_cells h) b.nodes) (ltb h.id_next p) (le-ltb h.id_next p l))
 
@@ -79,23 +79,23 @@ module _ (h : RecordHeader) (b : Lent) where
       (lt-ltb _ _ i))
 
   module _ (t : Told) where
-    pub no-eval-node : h.num_eval ≡ 0 → refused 21 0 ≡ of_record h b t
+    pub no_eval_node : h.num_eval ≡ 0 → refused 21 0 ≡ of_record h b t
     unfolding of_record
-    no-eval-node e = rw (eq-eqb h.num_eval 0 e)
+    no_eval_node e = rw (eq-eqb h.num_eval 0 e)
 
-    pub over-wires : (h.num_eval ≡ 0 → ⊥) → most_record_wires < record_wires h → refused 19 0 ≡ of_record h b t
+    pub over_wires : (h.num_eval ≡ 0 → ⊥) → most_record_wires < record_wires h → refused 19 0 ≡ of_record h b t
     unfolding of_record
-    over-wires n l = rw (ne_eqb h.num_eval 0 n, lt-ltb most_record_wires (record_wires h) l)
+    over_wires n l = rw (ne_eqb h.num_eval 0 n, lt-ltb most_record_wires (record_wires h) l)
 
-    pub record-short : (h.num_eval ≡ 0 → ⊥) → record_wires h ≤ most_record_wires → room h.num_read h.num_eval (length b.values) (length b.counts) (length b.nodes) ≡ false
+    pub record_short : (h.num_eval ≡ 0 → ⊥) → record_wires h ≤ most_record_wires → room h.num_read h.num_eval (length b.values) (length b.counts) (length b.nodes) ≡ false
         → refused 6 0 ≡ of_record h b t
     unfolding of_record
-    record-short n l r = rw (ne_eqb h.num_eval 0 n, le-ltb most_record_wires (record_wires h) l, r)
+    record_short n l r = rw (ne_eqb h.num_eval 0 n, le-ltb most_record_wires (record_wires h) l, r)
 
-    pub out-of-field : (h.num_eval ≡ 0 → ⊥) → record_wires h ≤ most_record_wires → room h.num_read h.num_eval (length b.values) (length b.counts) (length b.nodes) ≡ true
+    pub out_of_field : (h.num_eval ≡ 0 → ⊥) → record_wires h ≤ most_record_wires → room h.num_read h.num_eval (length b.values) (length b.counts) (length b.nodes) ≡ true
         → in_field h b ≡ false → refused 17 0 ≡ of_record h b t
     unfolding of_record
-    out-of-field n l r i = rw (ne_eqb h.num_eval 0 n, le-ltb most_record_wires (record_wires h) l, r, i)
+    out_of_field n l r i = rw (ne_eqb h.num_eval 0 n, le-ltb most_record_wires (record_wires h) l, r, i)
 
     pub in_order : (h.num_eval ≡ 0 → ⊥) → record_wires h ≤ most_record_wires → room h.num_read h.num_eval (length b.values) (length b.counts) (length b.nodes) ≡ true
         → in_field h b ≡ true → t ≡ of_record h b t
@@ -153,18 +153,18 @@ module _ (s : CircuitEvaluation) (t : Told) where
   unfolding of_finalized
   not_sound e = rw e
 
-  pub not-finalized : sound s ≡ true → (made_of s ≡ wires_of s → ⊥) → refused 11 0 ≡ of_finalized s t
+  pub not_finalized : sound s ≡ true → (made_of s ≡ wires_of s → ⊥) → refused 11 0 ≡ of_finalized s t
   unfolding of_finalized
-  not-finalized e n = rw (e, ne_eqb (made_of s) (wires_of s) n)
+  not_finalized e n = rw (e, ne_eqb (made_of s) (wires_of s) n)
 
-  pub is-finalized : sound s ≡ true → made_of s ≡ wires_of s → t ≡ of_finalized s t
+  pub is_finalized : sound s ≡ true → made_of s ≡ wires_of s → t ≡ of_finalized s t
   unfolding of_finalized
-  is-finalized e q = rw (e, eq-eqb (made_of s) (wires_of s) q)
+  is_finalized e q = rw (e, eq-eqb (made_of s) (wires_of s) q)
 
   -- past 13 and 11
-  pub finalized-of : (vs : List ℕ) → of_finalized s t ≡ accepted vs → (sound s ≡ true) × (made_of s ≡ wires_of s) × (t ≡ accepted vs)
+  pub finalized_of : (vs : List ℕ) → of_finalized s t ≡ accepted vs → (sound s ≡ true) × (made_of s ≡ wires_of s) × (t ≡ accepted vs)
   unfolding of_finalized
-  finalized-of vs q =
+  finalized_of vs q =
       let a = passes (sound s) _ 13 0 vs q in
       let c = passes (eqb (made_of s) (wires_of s)) _ 11 0 vs a.1 in
       (a.0, eqb-true _ _ c.0, c.1)

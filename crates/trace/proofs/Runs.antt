@@ -12,7 +12,7 @@ use Rattle.trace.specs.Outcome.{Outcome, outcome}
 use Rattle.trace.specs.Read.{first_pair, second_pair, read_done, read_made}
 use Rattle.trace.specs.Eval.{counted, gate_step}
 use Rattle.trace.specs.Calls.{Call, read, eval, called, calls, left_counted}
-use Rattle.trace.proofs.Accepted.{ReadAccepted, ReadRefused, read-cases, LeftTaken, EvalAccepted, EvalRefused, left-taken, eval-cases}
+use Rattle.trace.proofs.Accepted.{ReadAccepted, ReadRefused, read-cases, LeftTaken, EvalAccepted, EvalRefused, left_taken, eval_cases}
 
 -- P of a call, of what it was handed, and of what it leaves
 module _ (P : Call → Outcome → Outcome → Type 0)
@@ -27,20 +27,20 @@ module _ (P : Call → Outcome → Outcome → Type 0)
     → P (eval ptr word) o (outcome (refused n k) o.state (counted o.state (left_id word) o.buffers))) where
   refusals : (o : Outcome) (ptr word n k : ℕ) (left : Bool) → left_counted o.state ptr word o.buffers ≡ left
       → P (eval ptr word) o (outcome (refused n k) o.state (cond left (counted o.state (left_id word) o.buffers) o.buffers))
-  refusals o ptr word n k true e = left-stays o ptr word n k e (left-taken o.state ptr word o.buffers e)
+  refusals o ptr word n k true e = left-stays o ptr word n k e (left_taken o.state ptr word o.buffers e)
   refusals o ptr word n k false e = eval-stays o ptr word n k e
 
-  pub each-call : (c : Call) (o : Outcome) → P c o (called c o)
-  each-call (read ptr w) o =
+  pub each_call : (c : Call) (o : Outcome) → P c o (called c o)
+  each_call (read ptr w) o =
       ⊎_elim
       (λ (a : ReadAccepted o.state ptr w o.buffers). subst (P (read ptr w) o) (sym a.leaves) (reads o ptr w a))
       (λ (r : ReadRefused o.state ptr w o.buffers). subst (P (read ptr w) o) (sym r.leaves) (read_stays o ptr w r.number r.place))
       (read-cases o.state ptr w o.buffers)
-  each-call (eval ptr word) o =
+  each_call (eval ptr word) o =
       ⊎_elim
       (λ (a : EvalAccepted o.state ptr word o.buffers). subst (P (eval ptr word) o) (sym a.leaves) (evals o ptr word a))
       (λ (r : EvalRefused o.state ptr word o.buffers). subst (P (eval ptr word) o) (sym r.leaves) (refusals o ptr word r.number r.place _ refl))
-      (eval-cases o.state ptr word o.buffers)
+      (eval_cases o.state ptr word o.buffers)
 
 -- what each call keeps, every list of calls keeps
 pub each-list : (P : Outcome → Type 0) → ((c : Call) (o : Outcome) → P o → P (called c o)) → (cs : List Call) (o : Outcome) → P o → P (calls cs o)

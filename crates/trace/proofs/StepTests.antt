@@ -24,9 +24,9 @@ use Rattle.trace.proofs.Tests.{counts_of, counts_pass}
 
 -- READ
 module _ (s : CircuitEvaluation) (fit : Bool) (ptr : ℕ) (w : List (List ℕ)) where
-  pub read-out-of-turn : read_turn s ≡ false → refused 13 0 ≡ read_tests s fit ptr w
+  pub read_out_of_turn : read_turn s ≡ false → refused 13 0 ≡ read_tests s fit ptr w
   unfolding read_tests
-  read-out-of-turn h = rw h
+  read_out_of_turn h = rw h
 
   module _ (h : read_turn s ≡ true) where
     pub read_short : fit ≡ false → refused 6 0 ≡ read_tests s fit ptr w
@@ -39,47 +39,47 @@ module _ (s : CircuitEvaluation) (fit : Bool) (ptr : ℕ) (w : List (List ℕ)) 
 
 -- EVAL
 module _ (s : CircuitEvaluation) (fit : Bool) (ptr word : ℕ) where
-  pub eval-out-of-turn : eval_turn s ≡ false → refused 13 0 ≡ eval_tests s fit ptr word
+  pub eval_out_of_turn : eval_turn s ≡ false → refused 13 0 ≡ eval_tests s fit ptr word
   unfolding eval_tests
-  eval-out-of-turn h = rw h
+  eval_out_of_turn h = rw h
 
   module _ (h : eval_turn s ≡ true) where
-    pub eval-short : fit ≡ false → refused 6 0 ≡ eval_tests s fit ptr word
+    pub eval_short : fit ≡ false → refused 6 0 ≡ eval_tests s fit ptr word
     unfolding eval_tests
-    eval-short f = rw (h, f)
+    eval_short f = rw (h, f)
 
-    pub eval-cells : (x : Told) → fit ≡ true → x ≡ of_elements (word ∷ ptr ∷ []) (accepted []) → x ≡ eval_tests s fit ptr word
+    pub eval_cells_lem : (x : Told) → fit ≡ true → x ≡ of_elements (word ∷ ptr ∷ []) (accepted []) → x ≡ eval_tests s fit ptr word
     unfolding eval_tests
-    eval-cells x f q = rw (h, f) q
+    eval_cells_lem x f q = rw (h, f) q
 
 -- an operand
 module _ (number gate num-wires made id : ℕ) (vs cs : List ℕ) where
-  pub no-wire : num-wires ≤ id → refused number gate ≡ operand_answer number gate num-wires made id vs cs
+  pub no_wire : num-wires ≤ id → refused number gate ≡ operand_answer number gate num-wires made id vs cs
   unfolding operand_answer
-  no-wire h = rw (first_fails (ltb id num-wires) (ltb (position num-wires id) made) (le-ltb _ _ h))
+  no_wire h = rw (first_fails (ltb id num-wires) (ltb (position num-wires id) made) (le-ltb _ _ h))
 
   pub not_made : made ≤ position num-wires id → refused number gate ≡ operand_answer number gate num-wires made id vs cs
   unfolding operand_answer
   not_made h = rw (second_fails (ltb id num-wires) (ltb (position num-wires id) made) (le-ltb _ _ h))
 
-  pub as-stored : (x : Told) → id < num-wires → position num-wires id < made → x ≡ stored_answer (position num-wires id) vs cs → x ≡ operand_answer number gate num-wires made id vs cs
+  pub as_stored : (x : Told) → id < num-wires → position num-wires id < made → x ≡ stored_answer (position num-wires id) vs cs → x ≡ operand_answer number gate num-wires made id vs cs
   unfolding operand_answer
-  as-stored x h l q = rw (both_hold (ltb id num-wires) (ltb (position num-wires id) made) (lt-ltb _ _ h) (lt-ltb _ _ l)) q
+  as_stored x h l q = rw (both_hold (ltb id num-wires) (ltb (position num-wires id) made) (lt-ltb _ _ h) (lt-ltb _ _ l)) q
 
 module _ (k : ℕ) (vs cs : List ℕ) where
-  pub first-over-p : p ≤ get_or vs (2 * k) 0 → refused 7 (2 * k) ≡ stored_answer k vs cs
+  pub first_over_p : p ≤ get_or vs (2 * k) 0 → refused 7 (2 * k) ≡ stored_answer k vs cs
   unfolding stored_answer
-  first-over-p h = rw (le-ltb (get_or vs (2 * k) 0) p h)
+  first_over_p h = rw (le-ltb (get_or vs (2 * k) 0) p h)
 
   module _ (l₀ : get_or vs (2 * k) 0 < p) where
-    pub second-over-p : p ≤ get_or vs (2 * k + 1) 0 → refused 7 (2 * k + 1) ≡ stored_answer k vs cs
+    pub second_over_p : p ≤ get_or vs (2 * k + 1) 0 → refused 7 (2 * k + 1) ≡ stored_answer k vs cs
     unfolding stored_answer
-    second-over-p h = rw (lt-ltb (get_or vs (2 * k) 0) p l₀, le-ltb (get_or vs (2 * k + 1) 0) p h)
+    second_over_p h = rw (lt-ltb (get_or vs (2 * k) 0) p l₀, le-ltb (get_or vs (2 * k + 1) 0) p h)
 
     module _ (l₁ : get_or vs (2 * k + 1) 0 < p) where
-      pub count-full : 2 ^ 32 - 1 ≤ get_or cs k 0 → refused 13 0 ≡ stored_answer k vs cs
+      pub count_full : 2 ^ 32 - 1 ≤ get_or cs k 0 → refused 13 0 ≡ stored_answer k vs cs
       unfolding stored_answer
-      count-full h = rw (lt-ltb (get_or vs (2 * k) 0) p l₀, lt-ltb (get_or vs (2 * k + 1) 0) p l₁, le-ltb (get_or cs k 0) (2 ^ 32 - 1) h)
+      count_full h = rw (lt-ltb (get_or vs (2 * k) 0) p l₀, lt-ltb (get_or vs (2 * k + 1) 0) p l₁, le-ltb (get_or cs k 0) (2 ^ 32 - 1) h)
 
       pub stored-value : get_or cs k 0 < 2 ^ 32 - 1 → accepted (get_or vs (2 * k) 0 ∷ get_or vs (2 * k + 1) 0 ∷ []) ≡ stored_answer k vs cs
       unfolding stored_answer
@@ -97,51 +97,51 @@ module _ (ctx clk num-read num-eval : ℕ) (b : Lent) where
   abbrev state : CircuitEvaluation
   state = opened ctx clk num-read num-eval
 
-  pub open-refused : (number place : ℕ) → refused number place ≡ of_counts most_wires num-read num-eval (accepted []) → refused number place ≡ open_answer ctx clk num-read num-eval b
+  pub open_refused : (number place : ℕ) → refused number place ≡ of_counts most_wires num-read num-eval (accepted []) → refused number place ≡ open_answer ctx clk num-read num-eval b
   unfolding open_answer of_counts
-  open-refused n k e =
+  open_refused n k e =
       counts_stop (ltb most_wires (2 * num-read + num-eval)) (eqb num-read 0) (eqb num-eval 0) (refused 1 0) (refused 2 0) (refused 3 0) _ [] n k e
 
   module _ (h : accepted [] ≡ of_counts most_wires num-read num-eval (accepted [])) where
-    pub open-short : fits state b ≡ false → refused 6 0 ≡ open_answer ctx clk num-read num-eval b
+    pub open_short : fits state b ≡ false → refused 6 0 ≡ open_answer ctx clk num-read num-eval b
     unfolding open_answer
-    open-short f = sym (counts_pass _ _ _ _ (counts_of _ _ _ _ _ (sym h)).0 ∙ rw f)
+    open_short f = sym (counts_pass _ _ _ _ (counts_of _ _ _ _ _ (sym h)).0 ∙ rw f)
 
-    pub open-opened : (id : ℕ) → fits state b ≡ true → id ≡ next_id (wires num-read num-eval) 0
+    pub open_opened : (id : ℕ) → fits state b ≡ true → id ≡ next_id (wires num-read num-eval) 0
         → accepted (ctx ∷ clk ∷ num-read ∷ num-eval ∷ 0 ∷ 0 ∷ id ∷ []) ≡ open_answer ctx clk num-read num-eval b
     unfolding open_answer
-    open-opened id f e = sym (counts_pass _ _ _ _ (counts_of _ _ _ _ _ (sym h)).0 ∙ rw (f, ← e))
+    open_opened id f e = sym (counts_pass _ _ _ _ (counts_of _ _ _ _ _ (sym h)).0 ∙ rw (f, ← e))
 
 -- the result
 module _ (s : CircuitEvaluation) (b : Lent) where
-  pub output-unsound : sound s ≡ false → refused 13 0 ≡ output_answer s b
+  pub output_unsound : sound s ≡ false → refused 13 0 ≡ output_answer s b
   unfolding output_answer
-  output-unsound h = rw h
+  output_unsound h = rw h
 
   module _ (h : sound s ≡ true) where
-    pub output-short : fits s b ≡ false → refused 6 0 ≡ output_answer s b
+    pub output_short : fits s b ≡ false → refused 6 0 ≡ output_answer s b
     unfolding output_answer
-    output-short f = rw (h, f)
+    output_short f = rw (h, f)
 
     module _ (f : fits s b ≡ true) where
-      pub output-early : (made_of s ≡ wires_of s → ⊥) → refused 11 0 ≡ output_answer s b
+      pub output_early : (made_of s ≡ wires_of s → ⊥) → refused 11 0 ≡ output_answer s b
       unfolding output_answer
-      output-early n = rw (h, f, ne_eqb (made_of s) (wires_of s) n)
+      output_early n = rw (h, f, ne_eqb (made_of s) (wires_of s) n)
 
       module _ (n : ℕ) (e : made_of s ≡ wires_of s) (w : n ≡ wires_of s) where
         not-zero : is_zero (value_at b.values (n - 1)) ≡ false → refused 12 0 ≡ output_answer s b
         unfolding output_answer
         not-zero z = rw (h, f, eq-eqb (made_of s) (wires_of s) e, ← w, z)
 
-        pub first-not-zero : (get_or b.values (2 * (n - 1)) 0 ≡ 0 → ⊥) → refused 12 0 ≡ output_answer s b
-        first-not-zero z = not-zero (first_fails _ _ (ne_eqb _ _ z))
+        pub first_not_zero : (get_or b.values (2 * (n - 1)) 0 ≡ 0 → ⊥) → refused 12 0 ≡ output_answer s b
+        first_not_zero z = not-zero (first_fails _ _ (ne_eqb _ _ z))
 
-        pub second-not-zero : (get_or b.values (2 * (n - 1) + 1) 0 ≡ 0 → ⊥) → refused 12 0 ≡ output_answer s b
-        second-not-zero z = not-zero (second_fails (eqb (get_or b.values (2 * (n - 1)) 0) 0) _ (ne_eqb _ _ z))
+        pub second_not_zero : (get_or b.values (2 * (n - 1) + 1) 0 ≡ 0 → ⊥) → refused 12 0 ≡ output_answer s b
+        second_not_zero z = not-zero (second_fails (eqb (get_or b.values (2 * (n - 1)) 0) 0) _ (ne_eqb _ _ z))
 
-        pub output-zero : get_or b.values (2 * (n - 1)) 0 ≡ 0 → get_or b.values (2 * (n - 1) + 1) 0 ≡ 0 → accepted (header_numbers (header_of s)) ≡ output_answer s b
+        pub output_zero : get_or b.values (2 * (n - 1)) 0 ≡ 0 → get_or b.values (2 * (n - 1) + 1) 0 ≡ 0 → accepted (header_numbers (header_of s)) ≡ output_answer s b
         unfolding output_answer
-        output-zero z₀ z₁ =
+        output_zero z₀ z₁ =
             rw (
               h,
               f,

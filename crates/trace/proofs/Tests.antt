@@ -99,23 +99,23 @@ eval_turn_is s h e l = both_hold _ _ h (both_hold _ _ (eq-eqb _ _ e) (lt-ltb _ _
 
 -- whose turn it is not
 module _ (s : CircuitEvaluation) where
-  pub read-late : s.num_read ≤ s.reads_done → false ≡ read_turn s
-  read-late h = not_holds _ (λ e. let l = (read_turn_of s e).1 in omega arith)
+  pub read_late : s.num_read ≤ s.reads_done → false ≡ read_turn s
+  read_late h = not_holds _ (λ e. let l = (read_turn_of s e).1 in omega arith)
 
-  pub read-begun : (s.evals_done ≡ 0 → ⊥) → false ≡ read_turn s
-  read-begun n = not_holds _ (λ e. let t = read_turn_of s e in ⊎_elim (λ q. n q) (λ q. let l = t.1 in omega arith) t.0.order)
+  pub read_begun : (s.evals_done ≡ 0 → ⊥) → false ≡ read_turn s
+  read_begun n = not_holds _ (λ e. let t = read_turn_of s e in ⊎_elim (λ q. n q) (λ q. let l = t.1 in omega arith) t.0.order)
 
-  pub read-no-evals : s.num_eval ≡ 0 → false ≡ read_turn s
-  read-no-evals z = not_holds _ (λ e. let l = (read_turn_of s e).0.counts.evals in omega arith)
+  pub read_no_evals : s.num_eval ≡ 0 → false ≡ read_turn s
+  read_no_evals z = not_holds _ (λ e. let l = (read_turn_of s e).0.counts.evals in omega arith)
 
-  pub eval-early : (s.reads_done ≡ s.num_read → ⊥) → false ≡ eval_turn s
-  eval-early n = not_holds _ (λ e. n (eval_turn_of s e).1)
+  pub eval_early : (s.reads_done ≡ s.num_read → ⊥) → false ≡ eval_turn s
+  eval_early n = not_holds _ (λ e. n (eval_turn_of s e).1)
 
-  pub eval-late : s.num_eval ≤ s.evals_done → false ≡ eval_turn s
-  eval-late h = not_holds _ (λ e. let l = (eval_turn_of s e).2 in omega arith)
+  pub eval_late : s.num_eval ≤ s.evals_done → false ≡ eval_turn s
+  eval_late h = not_holds _ (λ e. let l = (eval_turn_of s e).2 in omega arith)
 
-  pub eval-no-reads : s.num_read ≡ 0 → false ≡ eval_turn s
-  eval-no-reads z = not_holds _ (λ e. let l = (eval_turn_of s e).0.counts.reads in omega arith)
+  pub eval_no_reads : s.num_read ≡ 0 → false ≡ eval_turn s
+  eval_no_reads z = not_holds _ (λ e. let l = (eval_turn_of s e).0.counts.reads in omega arith)
 
 -- room for the whole circuit
 pub record Fits (num-read num-eval values counts nodes : ℕ) : Type 0 where
@@ -181,26 +181,26 @@ module _ (s : CircuitEvaluation) where
   abbrev id? : Bool
   id? = eqb s.id_next (next_id (wires_of s) (made_of s))
 
-  pub bad-counts : (number place : ℕ) → refused number place ≡ of_counts most_wires s.num_read s.num_eval (accepted []) → false ≡ sound s
+  pub bad_counts : (number place : ℕ) → refused number place ≡ of_counts most_wires s.num_read s.num_eval (accepted []) → false ≡ sound s
   unfolding sound
-  bad-counts n k e = sym (first_fails counts-pass? (reads? && (evals? && (in-order? && id?))) (ap is_accepted (sym e)))
+  bad_counts n k e = sym (first_fails counts-pass? (reads? && (evals? && (in-order? && id?))) (ap is_accepted (sym e)))
 
-  pub reads-past : s.num_read < s.reads_done → false ≡ sound s
+  pub reads_past : s.num_read < s.reads_done → false ≡ sound s
   unfolding sound
-  reads-past h = sym (second_fails counts-pass? _ (first_fails reads? (evals? && (in-order? && id?)) (lt-leb _ _ h)))
+  reads_past h = sym (second_fails counts-pass? _ (first_fails reads? (evals? && (in-order? && id?)) (lt-leb _ _ h)))
 
-  pub evals-past : s.num_eval < s.evals_done → false ≡ sound s
+  pub evals_past : s.num_eval < s.evals_done → false ≡ sound s
   unfolding sound
-  evals-past h = sym (second_fails counts-pass? _ (second_fails reads? _ (first_fails evals? (in-order? && id?) (lt-leb _ _ h))))
+  evals_past h = sym (second_fails counts-pass? _ (second_fails reads? _ (first_fails evals? (in-order? && id?) (lt-leb _ _ h))))
 
   pub out_of_order : in-order? ≡ false → false ≡ sound s
   unfolding sound
   out_of_order h = sym (second_fails counts-pass? _ (second_fails reads? _ (second_fails evals? _ (first_fails in-order? id? h))))
 
-  pub sound-by-id : accepted [] ≡ of_counts most_wires s.num_read s.num_eval (accepted []) → s.reads_done ≤ s.num_read → s.evals_done ≤ s.num_eval → in-order? ≡ true
+  pub sound_by_id : accepted [] ≡ of_counts most_wires s.num_read s.num_eval (accepted []) → s.reads_done ≤ s.num_read → s.evals_done ≤ s.num_eval → in-order? ≡ true
       → eqb s.id_next (next_id (wires_of s) (made_of s)) ≡ sound s
   unfolding sound
-  sound-by-id e hr he o =
+  sound_by_id e hr he o =
       sym
       (first_holds counts-pass? (reads? && (evals? && (in-order? && id?))) (ap is_accepted (sym e))
       ∙ first_holds reads? (evals? && (in-order? && id?)) (le-leb _ _ hr)
@@ -215,17 +215,17 @@ module _ (s : CircuitEvaluation) where
   sound-by-next n m hr he o =
       ⊎_elim
       (λ (l : most_wires < wires_of s). first_fails _ id? (lt-leb _ _ l) ∙ not_holds _ (λ e. let f = (sound_of s e).counts.few in omega arith))
-      (λ (l : wires_of s ≤ most_wires). first_holds _ id? (le-leb _ _ l) ∙ sound-by-id (counts_in_order _ _ _ _ l n m) hr he o)
+      (λ (l : wires_of s ≤ most_wires). first_holds _ id? (le-leb _ _ l) ∙ sound_by_id (counts_in_order _ _ _ _ l n m) hr he o)
       (below? most_wires (wires_of s))
 
-  pub read-by-next : s.reads_done < s.num_read → s.evals_done ≡ 0 → (s.num_eval ≡ 0 → ⊥) → next? ≡ read_turn s
+  pub read_by_next : s.reads_done < s.num_read → s.evals_done ≡ 0 → (s.num_eval ≡ 0 → ⊥) → next? ≡ read_turn s
   unfolding read_turn
-  read-by-next l z m =
+  read_by_next l z m =
       sound-by-next (λ e. omega arith) m (omega arith) (omega arith) (either_holds _ _ (inl (eq-eqb _ _ z))) ∙ second_holds _ _ (lt-ltb _ _ l)
 
-  pub eval-by-next : s.reads_done ≡ s.num_read → s.evals_done < s.num_eval → (s.num_read ≡ 0 → ⊥) → next? ≡ eval_turn s
+  pub eval_by_next : s.reads_done ≡ s.num_read → s.evals_done < s.num_eval → (s.num_read ≡ 0 → ⊥) → next? ≡ eval_turn s
   unfolding eval_turn
-  eval-by-next e l n =
+  eval_by_next e l n =
       sound-by-next n (λ z. omega arith) (omega arith) (omega arith) (either_holds (eqb s.evals_done 0) _ (inr (eq-eqb _ _ e)))
       ∙ second_holds _ _ (both_hold _ _ (eq-eqb _ _ e) (lt-ltb _ _ l))
 

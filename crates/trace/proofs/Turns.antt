@@ -22,9 +22,9 @@ use Rattle.trace.specs.Outcome.{Lent, Outcome, outcome, fits, unless_refused, va
 use Rattle.trace.specs.Read.{read_handed, read_tests, read_step}
 use Rattle.trace.specs.Eval.{eval_tests, at_gate, position, is_made, counted, value_of, stored_answer, operand_answer, operand, operands_step, eval_step}
 use Rattle.trace.specs.Output.{header_numbers, header_of, is_zero, output_answer}
-use Rattle.trace.proofs.Tests.{sound_is, read_turn_is, eval_turn_is, read-late, eval-early, eval-late}
-use Rattle.trace.proofs.StepTests.{read-out-of-turn, read-cells, eval-out-of-turn, eval-cells}
-use Rattle.trace.proofs.Ways.{read_refused, eval-refused}
+use Rattle.trace.proofs.Tests.{sound_is, read_turn_is, eval_turn_is, read_late, eval_early, eval_late}
+use Rattle.trace.proofs.StepTests.{read_out_of_turn, read-cells, eval_out_of_turn, eval_cells_lem}
+use Rattle.trace.proofs.Ways.{read_refused, eval_refused}
 use Rattle.trace.proofs.Reached.{Ready, room_is}
 
 -- ---- a number that is not told
@@ -114,25 +114,25 @@ module _ (o : Outcome) (ready : Ready o) where
   -- ---- READ
 
   -- while READ steps lack, a READ step is accepted or tells 7
-  pub read-in-turn : (ptr : ℕ) (w : List (List ℕ)) → o.state.reads_done < o.state.num_read → (read_step o.state ptr w o.buffers).told ≡ of_elements (read_handed ptr w) (accepted [])
+  pub read_in_turn : (ptr : ℕ) (w : List (List ℕ)) → o.state.reads_done < o.state.num_read → (read_step o.state ptr w o.buffers).told ≡ of_elements (read_handed ptr w) (accepted [])
   unfolding read_step
-  read-in-turn ptr w h = rw (← read-cells s (fits s b) ptr w (read_turn_is s sound-here h) _ fits-here refl) (tells_elements (read_handed ptr w) s b _ refl)
+  read_in_turn ptr w h = rw (← read-cells s (fits s b) ptr w (read_turn_is s sound-here h) _ fits-here refl) (tells_elements (read_handed ptr w) s b _ refl)
 
-  pub read-over : (ptr : ℕ) (w : List (List ℕ)) → o.state.reads_done ≡ o.state.num_read → read_step o.state ptr w o.buffers ≡ outcome (refused 13 0) o.state o.buffers
-  read-over ptr w e = sym (read_refused s ptr w b 13 0 (read-out-of-turn s (fits s b) ptr w (sym (read-late s (omega arith)))))
+  pub read_over : (ptr : ℕ) (w : List (List ℕ)) → o.state.reads_done ≡ o.state.num_read → read_step o.state ptr w o.buffers ≡ outcome (refused 13 0) o.state o.buffers
+  read_over ptr w e = sym (read_refused s ptr w b 13 0 (read_out_of_turn s (fits s b) ptr w (sym (read_late s (omega arith)))))
 
-  pub read-13 : (ptr : ℕ) (w : List (List ℕ)) (k : ℕ) → (read_step o.state ptr w o.buffers).told ≡ refused 13 k → o.state.reads_done ≡ o.state.num_read
-  read-13 ptr w k e =
+  pub read_13 : (ptr : ℕ) (w : List (List ℕ)) (k : ℕ) → (read_step o.state ptr w o.buffers).told ≡ refused 13 k → o.state.reads_done ≡ o.state.num_read
+  read_13 ptr w k e =
       ⊎_elim
       (λ (l : o.state.reads_done < o.state.num_read).
-      absurd (never_elements 13 (read_handed ptr w) (accepted []) (λ q. omega arith) (never_accepted 13 []) k (sym (read-in-turn ptr w l) ∙ e)))
+      absurd (never_elements 13 (read_handed ptr w) (accepted []) (λ q. omega arith) (never_accepted 13 []) k (sym (read_in_turn ptr w l) ∙ e)))
       (λ (l : o.state.num_read ≤ o.state.reads_done). let r = ready.is_sound.reads_end in omega arith)
       (below? o.state.reads_done o.state.num_read)
 
   -- nor is 6 told
-  pub read-not-6 : (ptr : ℕ) (w : List (List ℕ)) → Never 6 (read_step o.state ptr w o.buffers).told
+  pub read_not_6 : (ptr : ℕ) (w : List (List ℕ)) → Never 6 (read_step o.state ptr w o.buffers).told
   unfolding read_step read_tests
-  read-not-6 ptr w =
+  read_not_6 ptr w =
       rw fits-here
       (never_unless 6 (cond (read_turn s) (of_elements (read_handed ptr w) (accepted [])) (refused 13 0)) s b _
       (never_cond 6 (read_turn s) _ _ (never_elements 6 (read_handed ptr w) (accepted []) (λ q. omega arith) (never_accepted 6 [])) (never_refused 6 13 0 (λ q. omega arith)))
@@ -141,19 +141,19 @@ module _ (o : Outcome) (ready : Ready o) where
   -- ---- EVAL
 
   -- with all READ steps done and while EVAL steps lack, the first tests of an EVAL step pass or tell 7
-  pub eval-in-turn : (ptr word : ℕ) → o.state.reads_done ≡ o.state.num_read → o.state.evals_done < o.state.num_eval
+  pub eval_in_turn : (ptr word : ℕ) → o.state.reads_done ≡ o.state.num_read → o.state.evals_done < o.state.num_eval
       → eval_tests o.state (fits o.state o.buffers) ptr word ≡ of_elements (word ∷ ptr ∷ []) (accepted [])
-  eval-in-turn ptr word e h = sym (eval-cells s (fits s b) ptr word (eval_turn_is s sound-here e h) _ fits-here refl)
+  eval_in_turn ptr word e h = sym (eval_cells_lem s (fits s b) ptr word (eval_turn_is s sound-here e h) _ fits-here refl)
 
-  pub eval-over : (ptr word : ℕ) → (o.state.reads_done < o.state.num_read) ⊎ (o.state.evals_done ≡ o.state.num_eval)
+  pub eval_over : (ptr word : ℕ) → (o.state.reads_done < o.state.num_read) ⊎ (o.state.evals_done ≡ o.state.num_eval)
       → (eval_tests o.state (fits o.state o.buffers) ptr word ≡ refused 13 0) × (eval_step o.state ptr word o.buffers ≡ outcome (refused 13 0) o.state o.buffers)
-  eval-over ptr word h = (sym late, sym (eval-refused s ptr word b 13 0 late))
+  eval_over ptr word h = (sym late, sym (eval_refused s ptr word b 13 0 late))
     where
       late : refused 13 0 ≡ eval_tests s (fits s b) ptr word
       late =
           ⊎_elim
-          (λ (l : o.state.reads_done < o.state.num_read). eval-out-of-turn s (fits s b) ptr word (sym (eval-early s (λ e. omega arith))))
-          (λ (e : o.state.evals_done ≡ o.state.num_eval). eval-out-of-turn s (fits s b) ptr word (sym (eval-late s (omega arith))))
+          (λ (l : o.state.reads_done < o.state.num_read). eval_out_of_turn s (fits s b) ptr word (sym (eval_early s (λ e. omega arith))))
+          (λ (e : o.state.evals_done ≡ o.state.num_eval). eval_out_of_turn s (fits s b) ptr word (sym (eval_late s (omega arith))))
           h
 
   -- the two cases of an EVAL step's turn
@@ -174,22 +174,22 @@ module _ (o : Outcome) (ready : Ready o) where
       (below? o.state.reads_done o.state.num_read)
 
   in-turn-not-13 : (ptr word : ℕ) → In → Never 13 (eval_tests s (fits s b) ptr word)
-  in-turn-not-13 ptr word t = rw (eval-in-turn ptr word t.0 t.1) (never_elements 13 (word ∷ ptr ∷ []) (accepted []) (λ q. omega arith) (never_accepted 13 []))
+  in-turn-not-13 ptr word t = rw (eval_in_turn ptr word t.0 t.1) (never_elements 13 (word ∷ ptr ∷ []) (accepted []) (λ q. omega arith) (never_accepted 13 []))
 
-  pub eval-13 : (ptr word k : ℕ) → eval_tests o.state (fits o.state o.buffers) ptr word ≡ refused 13 k
+  pub eval_13 : (ptr word k : ℕ) → eval_tests o.state (fits o.state o.buffers) ptr word ≡ refused 13 k
       → (o.state.reads_done < o.state.num_read) ⊎ (o.state.evals_done ≡ o.state.num_eval)
-  eval-13 ptr word k e =
+  eval_13 ptr word k e =
       ⊎_elim
       (λ (t : Out). t)
       (λ (t : In). absurd (in-turn-not-13 ptr word t k e))
       turn?
 
   -- so a step in its turn tells 13 only for "count at 4294967295", of an operand as it is when it is looked at
-  pub eval-step-13 : (ptr word k : ℕ) → (eval_step o.state ptr word o.buffers).told ≡ refused 13 k
+  pub eval_step_13 : (ptr word k : ℕ) → (eval_step o.state ptr word o.buffers).told ≡ refused 13 k
       → ((o.state.reads_done < o.state.num_read) ⊎ (o.state.evals_done ≡ o.state.num_eval))
       ⊎ ((2 ^ 32 - 1 ≤ get_or o.buffers.counts (position (wires_of o.state) (left_id word)) 0)
       ⊎ (2 ^ 32 - 1 ≤ get_or (counted o.state (left_id word) o.buffers).counts (position (wires_of o.state) (right_id word)) 0))
-  eval-step-13 ptr word k e =
+  eval_step_13 ptr word k e =
       ⊎_elim
       (λ (t : Out). inl t)
       (λ (t : In). inr (⊎_elim
@@ -216,8 +216,8 @@ module _ (o : Outcome) (ready : Ready o) where
   first-tests n ptr word h₇ h₁₃ =
       rw fits-here (never_cond n (eval_turn s) _ _ (never_elements n (word ∷ ptr ∷ []) (accepted []) h₇ (never_accepted n [])) (never_refused n 13 0 h₁₃))
 
-  pub eval-not-6 : (ptr word : ℕ) → Never 6 (eval_step o.state ptr word o.buffers).told
-  eval-not-6 ptr word =
+  pub eval_not_6 : (ptr word : ℕ) → Never 6 (eval_step o.state ptr word o.buffers).told
+  eval_not_6 ptr word =
       never_eval 6 s ptr word b (λ q. omega arith) (λ q. omega arith) (λ q. omega arith) (λ q. omega arith) (first-tests 6 ptr word (λ q. omega arith) (λ q. omega arith))
       (never_counting 6 s (left_id word) b (λ q. omega arith))
       (never_counting 6 s (right_id word) (counted s (left_id word) b) (λ q. omega arith))
@@ -225,22 +225,22 @@ module _ (o : Outcome) (ready : Ready o) where
   -- ---- the result
 
   -- "13, 6, 11, 12": of these the last two are left
-  pub output-in-turn : output_answer o.state o.buffers
+  pub output_in_turn : output_answer o.state o.buffers
       ≡ cond (eqb (made_of o.state) (wires_of o.state))
       (cond (is_zero (value_at o.buffers.values (wires_of o.state - 1))) (accepted (header_numbers (header_of o.state))) (refused 12 0))
       (refused 11 0)
   unfolding output_answer
-  output-in-turn = rw (sound-here, fits-here)
+  output_in_turn = rw (sound-here, fits-here)
 
   never-output : (n : ℕ) → (11 ≡ n → ⊥) → (12 ≡ n → ⊥) → Never n (output_answer o.state o.buffers)
   never-output n h₁₁ h₁₂ =
-      rw output-in-turn
+      rw output_in_turn
       (never_cond n (eqb (made_of s) (wires_of s)) _ _
       (never_cond n (is_zero (value_at b.values (wires_of s - 1))) _ _ (never_accepted n _) (never_refused n 12 0 h₁₂))
       (never_refused n 11 0 h₁₁))
 
-  pub output-not-13 : Never 13 (output_answer o.state o.buffers)
-  output-not-13 = never-output 13 (λ q. omega arith) (λ q. omega arith)
+  pub output_not_13 : Never 13 (output_answer o.state o.buffers)
+  output_not_13 = never-output 13 (λ q. omega arith) (λ q. omega arith)
 
-  pub output-not-6 : Never 6 (output_answer o.state o.buffers)
-  output-not-6 = never-output 6 (λ q. omega arith) (λ q. omega arith)
+  pub output_not_6 : Never 6 (output_answer o.state o.buffers)
+  output_not_6 = never-output 6 (λ q. omega arith) (λ q. omega arith)

@@ -16,7 +16,7 @@ use Rattle.trace.specs.Read.{first_pair, second_pair, read_step}
 use Rattle.trace.specs.Eval.{position, value_of, combine, eval_step}
 use Rattle.trace.specs.Calls.{Call, read, eval, called, calls}
 use Rattle.trace.proofs.Stores.{value-stored, value_below}
-use Rattle.trace.proofs.Accepted.{read_accepted, eval-accepted}
+use Rattle.trace.proofs.Accepted.{read_accepted, eval_accepted}
 use Rattle.trace.proofs.Kept.{values_kept}
 use Rattle.trace.proofs.Ids.{next_position, second_position}
 
@@ -43,13 +43,13 @@ read-values s ptr w b us e =
 pub gate_value_lem : (s : CircuitEvaluation) (ptr word : ℕ) (b : Lent) (us : List ℕ) → (eval_step s ptr word b).told ≡ accepted us
     → value_of (eval_step s ptr word b).state s.id_next (eval_step s ptr word b).buffers ≡ combine (opcode word) (value_of s (left_id word) b) (value_of s (right_id word) b)
 gate_value_lem s ptr word b us e =
-    let a = eval-accepted s ptr word b us e in
+    let a = eval_accepted s ptr word b us e in
     let h = a.taken.is_sound in
     rw (a.leaves, next_position s h (omega arith)) (value-stored b.values (made_of s) (combine (opcode word) (value_of s (left_id word) b) (value_of s (right_id word) b)) (omega arith))
 
 -- whatever calls follow, each READ wire has its pair, and each gate's wire what its operands' wires give
-pub read-values_stay : (o : Outcome) (ptr : ℕ) (w : List (List ℕ)) (us : List ℕ) → (called (read ptr w) o).told ≡ accepted us → (cs : List Call) → ReadValues o.state w (calls cs (called (read ptr w) o))
-read-values_stay o ptr w us e cs =
+pub read_values_stay : (o : Outcome) (ptr : ℕ) (w : List (List ℕ)) (us : List ℕ) → (called (read ptr w) o).told ≡ accepted us → (cs : List Call) → ReadValues o.state w (calls cs (called (read ptr w) o))
+read_values_stay o ptr w us e cs =
     let s = o.state in
     let q = called (read ptr w) o in
     let a = read_accepted o.state ptr w o.buffers us e in
@@ -67,7 +67,7 @@ pub gate_value_stays : (o : Outcome) (ptr word : ℕ) (us : List ℕ) → (calle
 unfolding calls
 gate_value_stays o ptr word us e cs =
     let q = called (eval ptr word) o in
-    let a = eval-accepted o.state ptr word o.buffers us e in
+    let a = eval_accepted o.state ptr word o.buffers us e in
     let h = a.taken.is_sound in
     let x = next_position o.state h (omega arith) in
     let m : position (wires_of (called (eval ptr word) o).state) o.state.id_next < made_of (called (eval ptr word) o).state = rw a.leaves (omega arith) in

@@ -43,9 +43,9 @@ module _ (s : CircuitEvaluation) (ptr : ℕ) (w : List (List ℕ)) (b : Lent) wh
   read_refused n k e = rw (← e)
 
   module _ (e : accepted [] ≡ read_tests s (fits s b) ptr w) where
-    pub read-ready : Room s b.values b.counts b.nodes × ReadReady s
+    pub read_ready : Room s b.values b.counts b.nodes × ReadReady s
     unfolding read_tests
-    read-ready =
+    read_ready =
         let t = passes (read_turn s) _ 13 0 [] (sym e) in
         let f = passes (fits s b) _ 6 0 [] t.1 in
         let h = read_turn_of s t.0 in
@@ -93,14 +93,14 @@ taken number gate n m id vs cs v₀ v₁ e =
 
 -- EVAL
 module _ (s : CircuitEvaluation) (ptr word : ℕ) (b : Lent) where
-  pub eval-refused : (number place : ℕ) → refused number place ≡ eval_tests s (fits s b) ptr word → outcome (refused number place) s b ≡ eval_step s ptr word b
+  pub eval_refused : (number place : ℕ) → refused number place ≡ eval_tests s (fits s b) ptr word → outcome (refused number place) s b ≡ eval_step s ptr word b
   unfolding eval_step
-  eval-refused n k e = rw (← e)
+  eval_refused n k e = rw (← e)
 
   module _ (e : accepted [] ≡ eval_tests s (fits s b) ptr word) where
-    pub eval-ready : Room s b.values b.counts b.nodes × EvalReady s
+    pub eval_ready : Room s b.values b.counts b.nodes × EvalReady s
     unfolding eval_tests
-    eval-ready =
+    eval_ready =
         let t = passes (eval_turn s) _ 13 0 [] (sym e) in
         let f = passes (fits s b) _ 6 0 [] t.1 in
         let h = eval_turn_of s t.0 in
@@ -121,9 +121,9 @@ module _ (s : CircuitEvaluation) (ptr word : ℕ) (b : Lent) where
         (λ l. not_instruction word word_element l)
         (below? (opcode word) 3)
 
-    pub eval-undecoded : (number place : ℕ) → refused number place ≡ decode_answer word → outcome (refused 8 s.evals_done) s b ≡ eval_step s ptr word b
+    pub eval_undecoded : (number place : ℕ) → refused number place ≡ decode_answer word → outcome (refused 8 s.evals_done) s b ≡ eval_step s ptr word b
     unfolding eval_step
-    eval-undecoded n k q = rw (← e, undecoded n k q)
+    eval_undecoded n k q = rw (← e, undecoded n k q)
 
     module _ (left right op : ℕ) (d : accepted (left ∷ right ∷ op ∷ []) ≡ decode_answer word) where
       parts : (left ≡ left_id word) × (right ≡ right_id word) × (op ≡ opcode word)
@@ -137,9 +137,9 @@ module _ (s : CircuitEvaluation) (ptr word : ℕ) (b : Lent) where
           same q = let q₀ : left ≡ left_id word = cc in let q₁ : right ≡ right_id word = cc in let q₂ : op ≡ opcode word = cc in (q₀, q₁, q₂)
 
       -- past 13, 6, 7 and 8 the step is what its operands make of it
-      pub eval-operands : operands_step s ptr left right op b ≡ eval_step s ptr word b
+      pub eval_operands : operands_step s ptr left right op b ≡ eval_step s ptr word b
       unfolding eval_step
-      eval-operands = rw (parts.0, parts.1, parts.2, ← e, ← d)
+      eval_operands = rw (parts.0, parts.1, parts.2, ← e, ← d)
 
 -- counts of the same length leave the room as it is
 pub room_kept : (s : CircuitEvaluation) (vs cs ns ds : List ℕ) → length ds ≡ length cs → Room s vs cs ns → Room s vs ds ns
@@ -151,34 +151,34 @@ bus-room s w vs cs ns e r h = rw e (record { bus_few = r.few; bus_made = (let l 
 -- the two operands, by what looking at each of them answered and left in the counts
 module _ (s : CircuitEvaluation) (ptr left right op : ℕ) (b : Lent) where
   module _ (o : Operand) (cs : List ℕ) (told : operand_told o ≡ operand 9 s left b) (raise : cs ≡ counts_after (operand_told o) (position (wires_of s) left) b.counts) where
-    pub left-refused : (number place : ℕ) → o ≡ operands.Refused number place → outcome (refused number place) s (lent b.values cs b.nodes) ≡ operands_step s ptr left right op b
+    pub left_refused : (number place : ℕ) → o ≡ operands.Refused number place → outcome (refused number place) s (lent b.values cs b.nodes) ≡ operands_step s ptr left right op b
     unfolding operands_step
-    left-refused n k e = rw (raise, ← told, e)
+    left_refused n k e = rw (raise, ← told, e)
 
     module _ (a₀ a₁ : ℕ) (l : o ≡ operands.Value a₀ a₁) where
-      pub left-taken : Taken (wires_of s) (made_of s) left b.values b.counts (pair a₀ a₁)
-      left-taken = taken 9 s.evals_done _ _ _ _ _ a₀ a₁ (ap operand_told (sym l) ∙ told)
+      pub left_taken : Taken (wires_of s) (made_of s) left b.values b.counts (pair a₀ a₁)
+      left_taken = taken 9 s.evals_done _ _ _ _ _ a₀ a₁ (ap operand_told (sym l) ∙ told)
 
       left-counted : cs ≡ raised (position (wires_of s) left) b.counts
       left-counted = rw l at raise
 
       module _ (q : Operand) (ds : List ℕ) (told₂ : operand_told q ≡ operand 10 s right (lent b.values cs b.nodes)) (raise₂ : ds ≡ counts_after (operand_told q) (position (wires_of s) right) cs) where
-        pub right-refused : (number place : ℕ) → q ≡ operands.Refused number place → outcome (refused number place) s (lent b.values ds b.nodes) ≡ operands_step s ptr left right op b
+        pub right_refused : (number place : ℕ) → q ≡ operands.Refused number place → outcome (refused number place) s (lent b.values ds b.nodes) ≡ operands_step s ptr left right op b
         unfolding operands_step
-        right-refused n k e = rw (raise₂, ← told, l, ← left-counted, ← told₂, e)
+        right_refused n k e = rw (raise₂, ← told, l, ← left-counted, ← told₂, e)
 
         module _ (b₀ b₁ : ℕ) (r : q ≡ operands.Value b₀ b₁) where
-          pub right-taken : Taken (wires_of s) (made_of s) right b.values cs (pair b₀ b₁)
-          right-taken = taken 10 s.evals_done _ _ _ _ _ b₀ b₁ (ap operand_told (sym r) ∙ told₂)
+          pub right_taken : Taken (wires_of s) (made_of s) right b.values cs (pair b₀ b₁)
+          right_taken = taken 10 s.evals_done _ _ _ _ _ b₀ b₁ (ap operand_told (sym r) ∙ told₂)
 
           right-counted : ds ≡ raised (position (wires_of s) right) cs
           right-counted = rw r at raise₂
 
-          pub both-taken : (id : ℕ) (after : Lent) → id ≡ sub_f s.id_next 1 → after ≡ eval_made s ptr left right op (pair a₀ a₁) (pair b₀ b₁) (lent b.values ds b.nodes)
+          pub both_taken : (id : ℕ) (after : Lent) → id ≡ sub_f s.id_next 1 → after ≡ eval_made s ptr left right op (pair a₀ a₁) (pair b₀ b₁) (lent b.values ds b.nodes)
               → outcome (accepted []) (record { ctx = s.ctx; clk = s.clk; num_read = s.num_read; num_eval = s.num_eval; reads_done = s.reads_done; evals_done = s.evals_done + 1; id_next = id }) after
               ≡ operands_step s ptr left right op b
           unfolding operands_step
-          both-taken id after i e =
+          both_taken id after i e =
               rw (
                 ← told,
                 l,
@@ -188,8 +188,8 @@ module _ (s : CircuitEvaluation) (ptr left right op : ℕ) (b : Lent) where
                 ← right-counted,
                 e,
                 i,
-                ap (λ (v : Pair). v.c0) left-taken.value,
-                ap (λ (v : Pair). v.c1) left-taken.value,
-                ap (λ (v : Pair). v.c0) right-taken.value,
-                ap (λ (v : Pair). v.c1) right-taken.value,
+                ap (λ (v : Pair). v.c0) left_taken.value,
+                ap (λ (v : Pair). v.c1) left_taken.value,
+                ap (λ (v : Pair). v.c0) right_taken.value,
+                ap (λ (v : Pair). v.c1) right_taken.value,
               )

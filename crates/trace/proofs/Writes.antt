@@ -28,9 +28,9 @@ module _ (s : CircuitEvaluation) (ptr : ℕ) {w : WireBus} (vs cs ns : List ℕ)
       let z : node_cells s.reads_done 0 ≡ 7 * s.reads_done = omega arith in
       rw (ev₂, ec₂, en, ev, ec, e, bus, z)
 
-  pub gate-made : (left right op : ℕ) (l r v : List ℕ) (o : ℕ) → v ≡ cells (combine op (pair_of l) (pair_of r)) → o ≡ eval_op op
+  pub gate_made : (left right op : ℕ) (l r v : List ℕ) (o : ℕ) → v ≡ cells (combine op (pair_of l) (pair_of r)) → o ≡ eval_op op
       → vs₁ ≡ sets vs (2 * w.made) (cells (pair_of v))
       → cs₁ ≡ set cs w.made 0
       → ns₁ ≡ sets ns (node_cells s.num_read s.evals_done) (eval_node ptr o s.id_next (pair_of v) left (pair_of l) right (pair_of r))
       → lent vs₁ cs₁ ns₁ ≡ eval_made s ptr left right op (pair_of l) (pair_of r) (lent vs cs ns)
-  gate-made left right op l r v o e eo ev ec en = rw (ev, ec, en, e, eo, bus)
+  gate_made left right op l r v o e eo ev ec en = rw (ev, ec, en, e, eo, bus)

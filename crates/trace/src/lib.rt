@@ -65,7 +65,7 @@ pub const OVER_MAX_WIRES: u32 = 19;
 
 pub const NO_EVAL_NODE: u32 = 21;
 
-#[derive(Drop)]
+#[derive(Clone, Copy)]
 pub struct CircuitEvaluation {
     pub ctx: u32,
     pub clk: u32,
@@ -76,7 +76,7 @@ pub struct CircuitEvaluation {
     pub id_next: u64,
 }
 
-#[derive(Drop)]
+#[derive(Clone, Copy)]
 pub struct RecordHeader {
     pub ctx: u32,
     pub clk: u32,
@@ -86,35 +86,35 @@ pub struct RecordHeader {
 }
 
 // The state before the first step, or the refusal's number and place.
-#[derive(Drop)]
+#[derive(Clone, Copy)]
 pub enum OpenAnswer {
     Opened(CircuitEvaluation),
     Refused(u32, u64),
 }
 
 // The state after the step; or the state as it was, and the refusal's number and place.
-#[derive(Drop)]
+#[derive(Clone, Copy)]
 pub enum StepAnswer {
     Done(CircuitEvaluation),
     Refused(CircuitEvaluation, u32, u64),
 }
 
 // The record's header, where the last wire is zero, or the refusal's number and place.
-#[derive(Drop)]
+#[derive(Clone, Copy)]
 pub enum OutputAnswer {
     Zero(RecordHeader),
     Refused(u32, u64),
 }
 
 // A record's header, or the refusal's number and place.
-#[derive(Drop)]
+#[derive(Clone, Copy)]
 pub enum HeaderAnswer {
     Header(RecordHeader),
     Refused(u32, u64),
 }
 
 // What tests say: nothing, or the refusal's number and place.
-#[derive(Drop)]
+#[derive(Clone, Copy)]
 pub enum Tested {
     Passed,
     Refused(u32, u64),

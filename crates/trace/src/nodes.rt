@@ -4,7 +4,7 @@ ghost use Rattle.std.specs.Prelude.{◌≡◌, ◌+◌, ◌≤◌, length};
 ghost use Rattle.std.proofs.lemmas.List.Edits.{sets};
 ghost use Rattle.trace.specs.Inside.{read_cells, eval_cells};
 
-#[derive(Drop)]
+#[derive(Clone, Copy)]
 pub struct ReadNode {
     pub ptr: u64,
     pub id_0: u64,
@@ -13,7 +13,7 @@ pub struct ReadNode {
     pub v_1: [u64; 2],
 }
 
-#[derive(Drop)]
+#[derive(Clone, Copy)]
 pub struct EvalNode {
     pub ptr: u64,
     pub eval_op: u64,

@@ -12,14 +12,14 @@ use field::{NOT_ELEMENT, P};
 const MAX_COUNT: u32 = 4294967295;
 
 // The wire with index `id` is stored at `num_wires - 1 - id`.
-#[derive(Drop)]
+#[derive(Clone, Copy)]
 pub struct WireBus {
     pub num_wires: usize,
     pub made: usize,
 }
 
 // An operand's value, or the refusal's number and place.
-#[derive(Drop)]
+#[derive(Clone, Copy)]
 pub enum Operand {
     Value(u64, u64),
     Refused(u32, u64),

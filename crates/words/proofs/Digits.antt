@@ -27,26 +27,26 @@ module _ (w : List ℕ) (i : ℕ) (h : i < length w) where
   next : drop i w ≡ get_or w i 0 ∷ drop (i + 1) w
   next = rw (add-one i) (drop-cons w i 0 h)
 
-  pub digits-next : digit (get_or w i 0) ≡ true → digits (drop i w) ≡ digits (drop (i + 1) w)
+  pub digits_next : digit (get_or w i 0) ≡ true → digits (drop i w) ≡ digits (drop (i + 1) w)
   unfolding digits
-  digits-next e = ap digits next ∙ rw e
+  digits_next e = ap digits next ∙ rw e
 
-  pub digits-stop : digit (get_or w i 0) ≡ false → digits (drop i w) ≡ false
+  pub digits_stop : digit (get_or w i 0) ≡ false → digits (drop i w) ≡ false
   unfolding digits
-  digits-stop e = ap digits next ∙ rw e
+  digits_stop e = ap digits next ∙ rw e
 
-  pub value-next : (v : ℕ) → value_after v (drop i w) ≡ value_after (v * 10 + (get_or w i 0 - 48)) (drop (i + 1) w)
+  pub value_next : (v : ℕ) → value_after v (drop i w) ≡ value_after (v * 10 + (get_or w i 0 - 48)) (drop (i + 1) w)
   unfolding value_after
-  value-next v = ap (value_after v) next
+  value_next v = ap (value_after v) next
 
 module _ (w : List ℕ) (i : ℕ) (h : length w ≤ i) where
-  pub digits-end : digits (drop i w) ≡ true
+  pub digits_end : digits (drop i w) ≡ true
   unfolding digits
-  digits-end = ap digits (drop_of_length-le w h)
+  digits_end = ap digits (drop_of_length-le w h)
 
-  pub value-end : (v : ℕ) → value_after v (drop i w) ≡ v
+  pub value_end : (v : ℕ) → value_after v (drop i w) ≡ v
   unfolding value_after
-  value-end v = ap (value_after v) (drop_of_length-le w h)
+  value_end v = ap (value_after v) (drop_of_length-le w h)
 
 -- further digits make a number no smaller
 pub value_least : (w : List ℕ) (v : ℕ) → v ≤ value_after v w
@@ -55,14 +55,14 @@ value_least [] v = omega arith
 value_least (c ∷ w) v = omega (arith, value_least w (v * 10 + (c - 48)))
 
 module _ (w : List ℕ) (end : ℕ) where
-  pub judged-not : digits w ≡ false → NotDigits ≡ judged w end
+  pub judged_not : digits w ≡ false → NotDigits ≡ judged w end
   unfolding judged
-  judged-not e = rw e
+  judged_not e = rw e
 
-  pub judged-large : digits w ≡ true → 2 ^ 64 ≤ value_of w → Large ≡ judged w end
+  pub judged_large : digits w ≡ true → 2 ^ 64 ≤ value_of w → Large ≡ judged w end
   unfolding judged
-  judged-large e l = rw (e, le-ltb (value_of w) (2 ^ 64) l)
+  judged_large e l = rw (e, le-ltb (value_of w) (2 ^ 64) l)
 
-  pub judged-number : (v : ℕ) → value_of w ≡ v → v < 2 ^ 64 → digits w ≡ true → Number v end ≡ judged w end
+  pub judged_number : (v : ℕ) → value_of w ≡ v → v < 2 ^ 64 → digits w ≡ true → Number v end ≡ judged w end
   unfolding judged
-  judged-number v q l e = rw (e, q, lt-ltb v (2 ^ 64) l)
+  judged_number v q l e = rw (e, q, lt-ltb v (2 ^ 64) l)

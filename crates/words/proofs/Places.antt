@@ -24,27 +24,27 @@ module _ (s : List ℕ) (i : ℕ) (h : i < length s) where
   next : drop i s ≡ get_or s i 0 ∷ drop (i + 1) s
   next = rw (add-one i) (drop-cons s i 0 h)
 
-  pub gap-next : parting (get_or s i 0) ≡ true → gap (drop i s) ≡ suc (gap (drop (i + 1) s))
+  pub gap_next : parting (get_or s i 0) ≡ true → gap (drop i s) ≡ suc (gap (drop (i + 1) s))
   unfolding gap
-  gap-next e = ap gap next ∙ rw e
+  gap_next e = ap gap next ∙ rw e
 
   pub gap_here : parting (get_or s i 0) ≡ false → gap (drop i s) ≡ 0
   unfolding gap
   gap_here e = ap gap next ∙ rw e
 
-  pub lead-next : parting (get_or s i 0) ≡ false → lead (drop i s) ≡ suc (lead (drop (i + 1) s))
+  pub lead_next : parting (get_or s i 0) ≡ false → lead (drop i s) ≡ suc (lead (drop (i + 1) s))
   unfolding lead
-  lead-next e = ap lead next ∙ rw e
+  lead_next e = ap lead next ∙ rw e
 
   pub lead-here : parting (get_or s i 0) ≡ true → lead (drop i s) ≡ 0
   unfolding lead
   lead-here e = ap lead next ∙ rw e
 
 module _ (s : List ℕ) (i : ℕ) (h : length s ≤ i) where
-  pub gap-end : gap (drop i s) ≡ 0
+  pub gap_end : gap (drop i s) ≡ 0
   unfolding gap
-  gap-end = ap gap (drop_of_length-le s h)
+  gap_end = ap gap (drop_of_length-le s h)
 
-  pub lead-end : lead (drop i s) ≡ 0
+  pub lead_end : lead (drop i s) ≡ 0
   unfolding lead
-  lead-end = ap lead (drop_of_length-le s h)
+  lead_end = ap lead (drop_of_length-le s h)

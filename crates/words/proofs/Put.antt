@@ -20,7 +20,7 @@ use Rattle.words.specs.declared.EncodeAnswer.{EncodeAnswer}
 use Rattle.words.specs.contracts.EncodeAnswer.{the_type}
 use Rattle.words.specs.declared.EncodeAnswer.TheVariants.{Bytes, NotANumber, TooLarge, NoRoom}
 use Rattle.words.specs.declared.next.Word.TheVariants.{Number, NotDigits, Large, Nothing}
-use Rattle.words.proofs.Turns.{found, found_none, fits_not, fits-large, fits-room, fits_next}
+use Rattle.words.proofs.Turns.{found, found_none, fits_not, fits_large, fits-room, fits_next}
 
 bytes_none : bytes_of_all [] ≡ []
 unfolding bytes_of_all
@@ -43,18 +43,18 @@ pub put_start : (text old : List ℕ) → Fits (length old) 1 0 (words_of text) 
 put_start text old f = record { word = 1; fits = f; bytes = refl; same = refl }
 
 module _ {text old out : List ℕ} {from at : ℕ} (p : Put text old out from at) where
-  pub put-not : NotDigits ≡ word_from text from → ⊥
-  put-not e = fits_not (length old) p.word at text from p.fits e
+  pub put_not : NotDigits ≡ word_from text from → ⊥
+  put_not e = fits_not (length old) p.word at text from p.fits e
 
-  pub put-large : Large ≡ word_from text from → ⊥
-  put-large e = fits-large (length old) p.word at text from p.fits e
+  pub put_large : Large ≡ word_from text from → ⊥
+  put_large e = fits_large (length old) p.word at text from p.fits e
 
-  pub put-done : Nothing ≡ word_from text from → out ≡ sets old 0 (bytes_of_all (numbers_of (words_of text)))
-  put-done e = sym (ap (λ (vs : List ℕ). sets out at (bytes_of_all vs)) (found_none text from e) ∙ ap (sets out at) bytes_none) ∙ p.bytes
+  pub put_done : Nothing ≡ word_from text from → out ≡ sets old 0 (bytes_of_all (numbers_of (words_of text)))
+  put_done e = sym (ap (λ (vs : List ℕ). sets out at (bytes_of_all vs)) (found_none text from e) ∙ ap (sets out at) bytes_none) ∙ p.bytes
 
   module _ (v next : ℕ) (e : Number v next ≡ word_from text from) where
-    pub put-room : at + width_of v ≤ length out
-    put-room = omega (arith, fits-room (length old) p.word at text from v next p.fits e, p.same)
+    pub put_room : at + width_of v ≤ length out
+    put_room = omega (arith, fits-room (length old) p.word at text from v next p.fits e, p.same)
 
     pub put_next : (out' : List ℕ) (at' : ℕ) → out' ≡ sets out at (bytes_of v) → at' ≡ at + width_of v → Put text old out' next at'
     put_next out' at' q i =

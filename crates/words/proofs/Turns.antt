@@ -135,35 +135,35 @@ module _ (room k at : ℕ) (text : List ℕ) (from : ℕ) where
   by_first : (x : Word) → x ≡ word_from text from → on_word room k at text x ≡ left
   by_first x e = ap (on_word room k at text) e ∙ sym (answer_on room k at text from)
 
-  pub measure-none : Nothing ≡ word_from text from → Bytes at ≡ left
-  measure-none e = by_first Nothing e
+  pub measure_none : Nothing ≡ word_from text from → Bytes at ≡ left
+  measure_none e = by_first Nothing e
 
-  pub measure-not : NotDigits ≡ word_from text from → NotANumber k ≡ left
-  measure-not e = by_first NotDigits e
+  pub measure_not : NotDigits ≡ word_from text from → NotANumber k ≡ left
+  measure_not e = by_first NotDigits e
 
-  pub measure-large : Large ≡ word_from text from → TooLarge k ≡ left
-  measure-large e = by_first Large e
+  pub measure_large : Large ≡ word_from text from → TooLarge k ≡ left
+  measure_large e = by_first Large e
 
-  pub measure-no-room : (v next : ℕ) → Number v next ≡ word_from text from → room < at + width_of v → NoRoom k ≡ left
-  measure-no-room v next e h = rw (lt-leb (at + width_of v) room h) at (by_first (Number v next) e)
+  pub measure_no_room : (v next : ℕ) → Number v next ≡ word_from text from → room < at + width_of v → NoRoom k ≡ left
+  measure_no_room v next e h = rw (lt-leb (at + width_of v) room h) at (by_first (Number v next) e)
 
-  pub measure-next : (v next k' at' : ℕ) → Number v next ≡ word_from text from → k' ≡ suc k → at' ≡ at + width_of v → at' ≤ room → answer_from room k' at' (words_of (drop next text)) ≡ left
-  measure-next v next k' at' e i j h =
+  pub measure_next : (v next k' at' : ℕ) → Number v next ≡ word_from text from → k' ≡ suc k → at' ≡ at + width_of v → at' ≤ room → answer_from room k' at' (words_of (drop next text)) ≡ left
+  measure_next v next k' at' e i j h =
       let l : at + width_of v ≤ room = omega arith in
       ap₂ (λ (x y : ℕ). answer_from room x y (words_of (drop next text))) i j ∙ rw (le-leb (at + width_of v) room l) at (by_first (Number v next) e)
 
   -- where all words fit, the first is a number, and the others fit behind it
   pub fits_not : Fits room k at (words_of (drop from text)) → NotDigits ≡ word_from text from → ⊥
-  fits_not f e = clash (NotANumber k) f.0 refl (measure-not e ∙ f.1)
+  fits_not f e = clash (NotANumber k) f.0 refl (measure_not e ∙ f.1)
 
-  pub fits-large : Fits room k at (words_of (drop from text)) → Large ≡ word_from text from → ⊥
-  fits-large f e = clash (TooLarge k) f.0 refl (measure-large e ∙ f.1)
+  pub fits_large : Fits room k at (words_of (drop from text)) → Large ≡ word_from text from → ⊥
+  fits_large f e = clash (TooLarge k) f.0 refl (measure_large e ∙ f.1)
 
   pub fits-room : (v next : ℕ) → Fits room k at (words_of (drop from text)) → Number v next ≡ word_from text from → at + width_of v ≤ room
-  fits-room v next f e = ⊎_elim (λ l. absurd (clash (NoRoom k) f.0 refl (measure-no-room v next e l ∙ f.1))) (λ l. l) (below? room (at + width_of v))
+  fits-room v next f e = ⊎_elim (λ l. absurd (clash (NoRoom k) f.0 refl (measure_no_room v next e l ∙ f.1))) (λ l. l) (below? room (at + width_of v))
 
   pub fits_next : (v next : ℕ) → Fits room k at (words_of (drop from text)) → Number v next ≡ word_from text from → Fits room (suc k) (at + width_of v) (words_of (drop next text))
-  fits_next v next f e = (f.0, measure-next v next (suc k) (at + width_of v) e refl refl (fits-room v next f e) ∙ f.1)
+  fits_next v next f e = (f.0, measure_next v next (suc k) (at + width_of v) e refl refl (fits-room v next f e) ∙ f.1)
 
 abbrev bytes_in : EncodeAnswer → ℕ
 bytes_in (Bytes n) = n

@@ -16,7 +16,7 @@ use numbers::{WriteAnswer, width, write};
 
 // How many bytes were written; or the number, from 1, of the first word that is no decimal number,
 // or is 2^64 or more, or whose bytes find no room.
-#[derive(Drop)]
+#[derive(Clone, Copy)]
 pub enum EncodeAnswer {
     Bytes(usize),
     NotANumber(usize),

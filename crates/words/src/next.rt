@@ -6,7 +6,7 @@ ghost use Rattle.words.specs.Inside.{gap, lead, judged, word_from};
 const MAX: u64 = 18446744073709551615;
 
 // A word that is a number, and the place behind it; a word that is none, or 2^64 or more; or no word.
-#[derive(Drop)]
+#[derive(Clone, Copy)]
 pub enum Word {
     Number(u64, usize),
     NotDigits,

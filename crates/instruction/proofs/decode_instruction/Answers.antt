@@ -1,18 +1,12 @@
 -- `instruction::decode_instruction` meets its contract.
 -- Assumes nothing.
 use mathlib.Core.Path.{sym}
-use mathlib.Core.Logic.{⊎_elim}
-use native.Mathlib.Omega.{arith}
 use borrow.Author.Rules.{rules}
-use borrow.Author.Tests.{ltb-true}
 use Rattle.instruction.proofs.Laws.{not_element, not_instruction, known, unknown}
 use Rattle.instruction.proofs.decode_instruction.Goals as goal
 
 pub returns-then-instruction-ge-P : goal.returns-then-instruction-ge-P
 returns-then-instruction-ge-P c = sym (not_element _ (search rules))
-
-pub returns-then-id_l-gt-MAX_ID : goal.returns-then-id_l-gt-MAX_ID
-returns-then-id_l-gt-MAX_ID c = ⊎_elim (λ w. absurd (omega arith)) (λ w. absurd (omega (arith, ltb-true))) c.if-id_l-gt-MAX_ID.branch
 
 pub returns-then-op-lt3 : goal.returns-then-op-lt3
 returns-then-op-lt3 c = let e = c.op_of.ensures (search rules) in known _ _ (search rules) (sym e) (search rules)

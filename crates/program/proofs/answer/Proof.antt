@@ -4,7 +4,7 @@ use mathlib.Core.Path.{refl, sym}
 use lib.Seq.{length-take-le}
 use borrow.Author.Rules.{rules}
 use Rattle.record.proofs.Ways.{heard}
-use Rattle.program.proofs.ProgramTexts.{no_text, text-there, input-refused, input_given, input-evaluated}
+use Rattle.program.proofs.ProgramTexts.{no_text, text_there, input_refused, input_given, input_evaluated}
 use Rattle.program.proofs.answer.Tie as tie
 use Rattle.program.proofs.answer.Statement.{statement}
 
@@ -33,7 +33,7 @@ returns-2 : tie.Need-returns-2
 returns-2 c =
     let p = c.before.before.put-refusal in
     let e = heard c.before.before.before.before.before.before.before.before.before.read-input.ensures.0 c.before.before.before.before.before.read.given.1 in
-    text-there c.before.before.before.before.before.before.before.before.before.before.before.before.before.before.before.args.input.now c.before.before.before.before.before.before.before.before.before.before.before.before.before.before.before.args.out.now _ _ _ p.ensures.0 p.ensures.1 (input-refused _ _ _ e) (search rules)
+    text_there c.before.before.before.before.before.before.before.before.before.before.before.before.before.before.before.args.input.now c.before.before.before.before.before.before.before.before.before.before.before.before.before.before.before.args.out.now _ _ _ p.ensures.0 p.ensures.1 (input_refused _ _ _ e) (search rules)
 
 enum_told : tie.Need-enum-told
 enum_told c = search rules
@@ -90,8 +90,8 @@ returns-3 c =
     let e = heard k.ensures.0 c.before.before.before.before.before.enum_told.given.1 in
     let g = input_given _ _ _ _ _ e k.ensures.1 refl in
     let p = c.before.before.evaluate in
-    text-there c.before.before.before.before.before.before.before.before.before.before.before.before.before.before.before.args.input.now c.before.before.before.before.before.before.before.before.before.before.before.before.before.before.before.args.out.now _ _ _ p.ensures.0 p.ensures.1
-    (input-evaluated _ _ _ _ _ _ _ _ e g.ctx g.clk g.ptr g.vars g.evals g.cells) (search rules)
+    text_there c.before.before.before.before.before.before.before.before.before.before.before.before.before.before.before.args.input.now c.before.before.before.before.before.before.before.before.before.before.before.before.before.before.before.args.out.now _ _ _ p.ensures.0 p.ensures.1
+    (input_evaluated _ _ _ _ _ _ _ _ e g.ctx g.clk g.ptr g.vars g.evals g.cells) (search rules)
 
 pub answer-spec : {M : Type 1} → statement M
 answer-spec =

@@ -9,7 +9,7 @@ use Rattle.words.specs.Text.{words_of}
 use Rattle.words.specs.Answer.{answer_from}
 use Rattle.words.specs.Inside.{word_from}
 use Rattle.words.specs.declared.next.Word.TheVariants.{Number}
-use Rattle.words.proofs.Turns.{found, measure-none, measure-not, measure-large, measure-no-room, measure-next}
+use Rattle.words.proofs.Turns.{found, measure_none, measure_not, measure_large, measure_no_room, measure_next}
 use Rattle.words.proofs.measure.Statement.{statement}
 use Rattle.words.proofs.measure.Tie as tie
 
@@ -40,7 +40,7 @@ returns c =
     let s = c.before.before.before.before.before.before.before.before in
     let n = c.before.before.before.found.given in
     let e : Number n.0.0 n.0.1.0 ≡ word_from s.args.text.now l.from = sym n.1 ∙ c.before.before.before.before.before.next_word.ensures in
-    measure-no-room s.args.room l.word l.at s.args.text.now l.from n.0.0 n.0.1.0 e (omega arith) ∙ l.invariant.3
+    measure_no_room s.args.room l.word l.at s.args.text.now l.from n.0.0 n.0.1.0 e (omega arith) ∙ l.invariant.3
 
 add_at : tie.Need-overflow-add-at invariant-loop decreases-loop
 add_at c = search rules
@@ -52,7 +52,7 @@ returns-2 : tie.Need-returns-2 invariant-loop decreases-loop
 returns-2 c =
     let l = c.before.before.before.loop in
     let s = c.before.before.before.before.before in
-    measure-not s.args.room l.word l.at s.args.text.now l.from (sym c.enum_told.given.1 ∙ c.before.before.next_word.ensures) ∙ l.invariant.3
+    measure_not s.args.room l.word l.at s.args.text.now l.from (sym c.enum_told.given.1 ∙ c.before.before.next_word.ensures) ∙ l.invariant.3
 
 enum-told-2 : tie.Need-enum-told-2 invariant-loop decreases-loop
 enum-told-2 c = search rules
@@ -61,7 +61,7 @@ returns-3 : tie.Need-returns-3 invariant-loop decreases-loop
 returns-3 c =
     let l = c.before.before.before.loop in
     let s = c.before.before.before.before.before in
-    measure-large s.args.room l.word l.at s.args.text.now l.from (sym c.enum-told2.given.1 ∙ c.before.before.next_word.ensures) ∙ l.invariant.3
+    measure_large s.args.room l.word l.at s.args.text.now l.from (sym c.enum-told2.given.1 ∙ c.before.before.next_word.ensures) ∙ l.invariant.3
 
 enum-told-3 : tie.Need-enum-told-3 invariant-loop decreases-loop
 enum-told-3 c = search rules
@@ -70,7 +70,7 @@ returns-4 : tie.Need-returns-4 invariant-loop decreases-loop
 returns-4 c =
     let l = c.before.before.before.loop in
     let s = c.before.before.before.before.before in
-    measure-none s.args.room l.word l.at s.args.text.now l.from (sym c.enum-told3.given.1 ∙ c.before.before.next_word.ensures) ∙ l.invariant.3
+    measure_none s.args.room l.word l.at s.args.text.now l.from (sym c.enum-told3.given.1 ∙ c.before.before.next_word.ensures) ∙ l.invariant.3
 
 add-word : tie.Need-overflow-add-word invariant-loop decreases-loop
 add-word c =
@@ -98,7 +98,7 @@ loop-again c =
       f.within,
       omega (arith, f.further),
       omega arith,
-      measure-next s.args.room l.word l.at s.args.text.now l.from n.0.0 n.0.1.0 _ _ e (omega arith) (omega arith) (omega arith) ∙ l.invariant.3,
+      measure_next s.args.room l.word l.at s.args.text.now l.from n.0.0 n.0.1.0 _ _ e (omega arith) (omega arith) (omega arith) ∙ l.invariant.3,
     )
 
 pub measure-spec : {M : Type 1} → statement M

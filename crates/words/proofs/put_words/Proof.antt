@@ -11,7 +11,7 @@ use Rattle.record.proofs.Putting as putting
 use Rattle.words.specs.Inside.{word_from}
 use Rattle.words.specs.declared.next.Word.TheVariants.{Number}
 use Rattle.words.proofs.Turns.{found}
-use Rattle.words.proofs.Put.{Put, put_start, put-not, put-large, put-done, put-room, put_next}
+use Rattle.words.proofs.Put.{Put, put_start, put_not, put_large, put_done, put_room, put_next}
 use Rattle.words.proofs.put_words.Statement.{statement}
 use Rattle.words.proofs.put_words.Tie as tie
 
@@ -49,7 +49,7 @@ returns c =
     let n = c.before.before.before.before.before.before.before.found.given in
     let w = c.before.before.before.before.write in
     let e : Number n.0.0 n.0.1.0 ≡ word_from s.args.text.now l.from = sym n.1 ∙ c.before.before.before.before.before.before.before.before.before.next_word.ensures in
-    absurd (putting.put_refused _ _ _ (put-room l.invariant.1 n.0.0 n.0.1.0 e) _ _ (ap write_told (sym c.enum_told.given.1) ∙ w.ensures.0))
+    absurd (putting.put_refused _ _ _ (put_room l.invariant.1 n.0.0 n.0.1.0 e) _ _ (ap write_told (sym c.enum_told.given.1) ∙ w.ensures.0))
 
 loop-less : tie.Need-loop-smaller invariant-loop decreases-loop
 loop-less c =
@@ -67,7 +67,7 @@ loop-again c =
     let n = c.before.before.before.before.before.before.before.before.found.given in
     let w = c.before.before.before.before.before.write in
     let e : Number n.0.0 n.0.1.0 ≡ word_from s.args.text.now l.from = sym n.1 ∙ c.before.before.before.before.before.before.before.before.before.before.next_word.ensures in
-    let h = put-room l.invariant.1 n.0.0 n.0.1.0 e in (
+    let h = put_room l.invariant.1 n.0.0 n.0.1.0 e in (
       (found s.args.text.now l.from n.0.0 n.0.1.0 e).within,
       put_next l.invariant.1 n.0.0 n.0.1.0 e _ _ (w.ensures.1 ∙ room-written _ _ _ h) (putting.put_next _ _ _ h _ (ap write_told (sym c.before.written.given.1) ∙ w.ensures.0)),
     )
@@ -79,7 +79,7 @@ same-length-2 : tie.Need-same-length-2 invariant-loop decreases-loop
 same-length-2 c = c.before.before.before.loop.invariant.1.same
 
 returns-2 : tie.Need-returns-2 invariant-loop decreases-loop
-returns-2 c = absurd (put-not c.before.before.before.loop.invariant.1 (sym c.enum-told2.given.1 ∙ c.before.before.next_word.ensures))
+returns-2 c = absurd (put_not c.before.before.before.loop.invariant.1 (sym c.enum-told2.given.1 ∙ c.before.before.next_word.ensures))
 
 enum-told-3 : tie.Need-enum-told-3 invariant-loop decreases-loop
 enum-told-3 c = search rules
@@ -88,7 +88,7 @@ same-length-3 : tie.Need-same-length-3 invariant-loop decreases-loop
 same-length-3 c = c.before.before.before.loop.invariant.1.same
 
 returns-3 : tie.Need-returns-3 invariant-loop decreases-loop
-returns-3 c = absurd (put-large c.before.before.before.loop.invariant.1 (sym c.enum-told3.given.1 ∙ c.before.before.next_word.ensures))
+returns-3 c = absurd (put_large c.before.before.before.loop.invariant.1 (sym c.enum-told3.given.1 ∙ c.before.before.next_word.ensures))
 
 enum-told-4 : tie.Need-enum-told-4 invariant-loop decreases-loop
 enum-told-4 c = search rules
@@ -97,7 +97,7 @@ same-length-4 : tie.Need-same-length-4 invariant-loop decreases-loop
 same-length-4 c = c.before.before.before.loop.invariant.1.same
 
 returns-4 : tie.Need-returns-4 invariant-loop decreases-loop
-returns-4 c = put-done c.before.before.before.loop.invariant.1 (sym c.enum-told4.given.1 ∙ c.before.before.next_word.ensures)
+returns-4 c = put_done c.before.before.before.loop.invariant.1 (sym c.enum-told4.given.1 ∙ c.before.before.next_word.ensures)
 
 pub put-words-spec : {M : Type 1} → statement M
 put-words-spec =

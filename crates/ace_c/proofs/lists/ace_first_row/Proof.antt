@@ -4,7 +4,7 @@ use mathlib.Core.Path.{ap, ◌∙◌}
 use borrow.Author.Rules.{rules}
 use Rattle.runs.specs.declared.Ace.{Ace}
 use Rattle.runs.specs.Calls.{first_row_answer}
-use Rattle.field.proofs.Parts.{told-value}
+use Rattle.field.proofs.Parts.{told_value}
 use Rattle.ace_c.proofs.lists.ace_first_row.Statement.{statement}
 use Rattle.ace_c.proofs.lists.ace_first_row.Tie as tie
 
@@ -22,7 +22,7 @@ returns c =
     let d = c.before.before.before in
     let a = d.before.before.before.args in
     let e = d.first-row.ensures ∙ ap (λ (l : Ace). first_row_answer l a.clk) d.before.list_of.ensures in
-    told-value _ _ e _ _ 0 _ _ c.tell-rows.ensures
+    told_value _ _ e _ _ 0 _ _ c.tell-rows.ensures
 
 pub ace-first-row-spec : {M : Type 1} → statement M
 ace-first-row-spec =

@@ -3,7 +3,7 @@
 use mathlib.Core.Path.{ap, ◌∙◌}
 use borrow.Author.Rules.{rules}
 use Rattle.runs.specs.Calls.{total_answer}
-use Rattle.field.proofs.Parts.{told-value}
+use Rattle.field.proofs.Parts.{told_value}
 use Rattle.ace_c.proofs.lists.ace_trace_len.Statement.{statement}
 use Rattle.ace_c.proofs.lists.ace_trace_len.Tie as tie
 
@@ -20,7 +20,7 @@ returns : tie.Need-returns
 returns c =
     let d = c.before.before.before in
     let e = d.trace-len.ensures ∙ ap total_answer d.before.list_of.ensures in
-    told-value _ _ e _ _ 0 _ _ c.tell-rows.ensures
+    told_value _ _ e _ _ 0 _ _ c.tell-rows.ensures
 
 pub ace-trace-len-spec : {M : Type 1} → statement M
 ace-trace-len-spec =

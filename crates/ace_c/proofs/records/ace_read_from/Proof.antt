@@ -1,7 +1,7 @@
 -- `ace_c::records::ace_read_from` meets its contract.
 -- Assumes nothing.
 use borrow.Author.Rules.{rules}
-use Rattle.field.proofs.Parts.{told-values}
+use Rattle.field.proofs.Parts.{told_values}
 use Rattle.ace_c.proofs.records.ace_read_from.Statement.{statement}
 use Rattle.ace_c.proofs.records.ace_read_from.Tie as tie
 
@@ -23,7 +23,7 @@ same-length-3 c = search rules
 returns : tie.Need-returns
 returns c =
     let w = c.before.before.before.before.before.before.before.before.before.read-from.ensures in
-    let t = told-values _ _ w.0 _ _ 5 _ _ c.tell-header.ensures in
+    let t = told_values _ _ w.0 _ _ 5 _ _ c.tell-header.ensures in
     (t.0, (t.1.0, (t.1.1, w.1)))
 
 pub ace-read-from-spec : {M : Type 1} → statement M

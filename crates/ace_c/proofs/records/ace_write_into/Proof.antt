@@ -5,7 +5,7 @@ use borrow.Author.Rules.{rules}
 use Rattle.trace.specs.declared.RecordHeader.{RecordHeader}
 use Rattle.trace.specs.Outcome.{lent}
 use Rattle.record.specs.Bytes.{write_into_answer, written_into}
-use Rattle.field.proofs.Parts.{told-value}
+use Rattle.field.proofs.Parts.{told_value}
 use Rattle.ace_c.proofs.records.ace_write_into.Statement.{statement}
 use Rattle.ace_c.proofs.records.ace_write_into.Tie as tie
 
@@ -27,7 +27,7 @@ returns c =
     let a = d.before.before.before.before.before.before.before.args in
     let b = lent a.values.now a.counts.now a.nodes.now in
     let e = d.before.before.header_of.ensures in
-    let t = told-value _ _ (d.write-into.ensures.0 ∙ ap (λ (h : RecordHeader). write_into_answer h b a.out.now) e) _ _ 0 _ _ c.tell-write.ensures in
+    let t = told_value _ _ (d.write-into.ensures.0 ∙ ap (λ (h : RecordHeader). write_into_answer h b a.out.now) e) _ _ 0 _ _ c.tell-write.ensures in
     (t.0, (t.1.0, (t.1.1, d.write-into.ensures.1 ∙ ap (λ (h : RecordHeader). written_into h b a.out.now) e)))
 
 pub ace-write-into-spec : {M : Type 1} → statement M

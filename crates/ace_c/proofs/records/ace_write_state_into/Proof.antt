@@ -5,7 +5,7 @@ use borrow.Author.Rules.{rules}
 use Rattle.trace.specs.declared.CircuitEvaluation.{CircuitEvaluation}
 use Rattle.trace.specs.Outcome.{lent}
 use Rattle.record.specs.Bytes.{write_state_answer, written_state}
-use Rattle.field.proofs.Parts.{told-value}
+use Rattle.field.proofs.Parts.{told_value}
 use Rattle.ace_c.proofs.records.ace_write_state_into.Statement.{statement}
 use Rattle.ace_c.proofs.records.ace_write_state_into.Tie as tie
 
@@ -27,7 +27,7 @@ returns c =
     let a = d.before.before.before.before.before.before.before.before.args in
     let b = lent a.values.now a.counts.now a.nodes.now in
     let e = d.before.before.state-of.ensures in
-    let t = told-value _ _ (d.write-state-into.ensures.0 ∙ ap (λ (s : CircuitEvaluation). write_state_answer s b a.out.now) e) _ _ 0 _ _ c.tell-write.ensures in
+    let t = told_value _ _ (d.write-state-into.ensures.0 ∙ ap (λ (s : CircuitEvaluation). write_state_answer s b a.out.now) e) _ _ 0 _ _ c.tell-write.ensures in
     (t.0, (t.1.0, (t.1.1, d.write-state-into.ensures.1 ∙ ap (λ (s : CircuitEvaluation). written_state s b a.out.now) e)))
 
 pub ace-write-state-into-spec : {M : Type 1} → statement M

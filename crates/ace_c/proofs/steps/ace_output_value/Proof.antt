@@ -5,7 +5,7 @@ use borrow.Author.Rules.{rules}
 use Rattle.trace.specs.declared.CircuitEvaluation.{CircuitEvaluation}
 use Rattle.trace.specs.Outcome.{lent}
 use Rattle.trace.specs.Output.{output_answer}
-use Rattle.field.proofs.Parts.{told-values}
+use Rattle.field.proofs.Parts.{told_values}
 use Rattle.ace_c.proofs.steps.ace_output_value.Statement.{statement}
 use Rattle.ace_c.proofs.steps.ace_output_value.Tie as tie
 
@@ -24,7 +24,7 @@ returns c =
     let a = d.before.before.before.before.before.before.args in
     let b = lent a.values.now a.counts.now a.nodes.now in
     let e = d.output-value.ensures ∙ ap (λ (s : CircuitEvaluation). output_answer s b) d.before.state-of.ensures in
-    told-values _ _ e _ _ 5 _ _ c.tell-output.ensures
+    told_values _ _ e _ _ 5 _ _ c.tell-output.ensures
 
 pub ace-output-value-spec : {M : Type 1} → statement M
 ace-output-value-spec =

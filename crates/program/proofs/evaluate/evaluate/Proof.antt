@@ -6,7 +6,7 @@ use lib.ListN.{length}
 use lib.Seq.{sets}
 use mathlib.Core.List.{List}
 use Prim.Native.Nat.{ℕ}
-use Rattle.program.proofs.Evaluations.{told, refused-text, accepted-text, accepted-fits}
+use Rattle.program.proofs.Evaluations.{told, refused_text, accepted_text, accepted_fits}
 use Rattle.program.proofs.evaluate.evaluate.Tie as tie
 use Rattle.program.proofs.evaluate.evaluate.Statement.{statement}
 
@@ -38,7 +38,7 @@ put-record-requires : tie.Need-put-record-requires
 put-record-requires c κs =
     let s = c.before.before.before.before.before.before.before.before.before.before.before.before.before.before.before.before in
     let k = c.before.before.before.before.before.before.before.before.before.before.eval-circuit in
-    accepted-fits _ _ _ _ _ _ _ _ (told k.ensures.0 c.before.before.before.before.before.answer.given.1) k.ensures.1 s.requires.0 _ s.requires.1
+    accepted_fits _ _ _ _ _ _ _ _ (told k.ensures.0 c.before.before.before.before.before.answer.given.1) k.ensures.1 s.requires.0 _ s.requires.1
 
 enum-known-answer-2 : tie.Need-enum-known-answer-2
 enum-known-answer-2 c = search rules
@@ -53,7 +53,7 @@ returns : tie.Need-returns
 returns c =
     let k = c.before.before.before.before.before.before.before.before.before.before.before.before.before.eval-circuit in
     let p = c.before.before.put_record in
-    let t = accepted-text _ _ _ _ _ _ _ _ (told k.ensures.0 c.before.before.before.before.before.before.before.before.answer.given.1) k.ensures.1 in
+    let t = accepted_text _ _ _ _ _ _ _ _ (told k.ensures.0 c.before.before.before.before.before.before.before.before.answer.given.1) k.ensures.1 in
     (p.ensures.0 ∙ ap length t, p.ensures.1 ∙ ap (λ (l : List ℕ). sets c.before.before.before.before.before.before.before.before.before.before.before.before.before.before.before.before.before.before.before.args.out.now 0 l) t)
 
 same-length-2 : tie.Need-same-length-2
@@ -63,7 +63,7 @@ returns-2 : tie.Need-returns-2
 returns-2 c =
     let k = c.before.before.before.before.before.before.before.before.before.before.eval-circuit in
     let p = c.before.before.put-refusal in
-    let t = refused-text _ _ _ _ _ _ _ _ (told k.ensures.0 c.before.before.before.before.before.answer2.given.1) in
+    let t = refused_text _ _ _ _ _ _ _ _ (told k.ensures.0 c.before.before.before.before.before.answer2.given.1) in
     (p.ensures.0 ∙ ap length t, p.ensures.1 ∙ ap (λ (l : List ℕ). sets c.before.before.before.before.before.before.before.before.before.before.before.before.before.before.before.before.args.out.now 0 l) t)
 
 pub evaluate-spec : {M : Type 1} → statement M

@@ -2,7 +2,7 @@
 -- Assumes nothing.
 use mathlib.Core.Path.{refl}
 use borrow.Author.Rules.{rules}
-use Rattle.program.proofs.RecordTexts.{lines-held, lines_fit, record-wrote}
+use Rattle.program.proofs.RecordTexts.{lines-held, lines_fit, record_wrote}
 use Rattle.program.proofs.evaluate.put_record.Tie as tie
 use Rattle.program.proofs.evaluate.put_record.Statement.{statement}
 
@@ -70,7 +70,7 @@ returns c =
     let w = c.before.before.before.before.before.before.before.before.before.before.before.before.put_word in
     let f = c.before.before.before.before.before.before.before.put-lines in
     let l = c.before.before.put-lines2 in
-    record-wrote _ _ _ s.requires _ c.before.before.before.before.before.before.before.before.before.before.before.before.before.before.before.before.before.before.before.before.fill.ensures.1 _ _ _ _ _ w.ensures.0 w.ensures.1 f.ensures.0 f.ensures.1 refl _ _ l.ensures.0 l.ensures.1
+    record_wrote _ _ _ s.requires _ c.before.before.before.before.before.before.before.before.before.before.before.before.before.before.before.before.before.before.before.before.fill.ensures.1 _ _ _ _ _ w.ensures.0 w.ensures.1 f.ensures.0 f.ensures.1 refl _ _ l.ensures.0 l.ensures.1
 
 pub put-record-spec : {M : Type 1} → statement M
 put-record-spec =

@@ -2,7 +2,7 @@
 -- Assumes nothing.
 use native.Mathlib.Omega.{arith}
 use borrow.Author.Rules.{rules}
-use Rattle.program.proofs.Inputs.{room-past, room_is}
+use Rattle.program.proofs.Inputs.{room_past, room_is}
 use Rattle.program.proofs.read.over_room.Tie as tie
 use Rattle.program.proofs.read.over_room.Statement.{statement}
 
@@ -10,10 +10,10 @@ cast-most : tie.Need-overflow-cast-most
 cast-most c = search rules
 
 returns : tie.Need-returns
-returns c = room-past _ (omega arith)
+returns c = room_past _ (omega arith)
 
 returns-2 : tie.Need-returns-2
-returns-2 c = room-past _ (omega arith)
+returns-2 c = room_past _ (omega arith)
 
 add-result : tie.Need-overflow-add-result
 add-result c = search rules

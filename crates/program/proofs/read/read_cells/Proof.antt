@@ -5,7 +5,7 @@ use borrow.Author.Rules.{rules}
 use Rattle.numbers.specs.Answer.{read_told}
 use Rattle.record.proofs.Ways.{heard}
 use Rattle.program.proofs.Cells.{where_refused}
-use Rattle.program.proofs.Inputs.{cells_over, cells-off, cells_left, cells-end}
+use Rattle.program.proofs.Inputs.{cells_over, cells_off, cells_left, cells_end}
 use Rattle.program.proofs.read.read_cells.Tie as tie
 use Rattle.program.proofs.read.read_cells.Statement.{statement}
 
@@ -28,7 +28,7 @@ same_length c = search rules
 
 returns-2 : tie.Need-returns-2
 returns-2 c =
-    let t = cells-off _ _ _ _ _ (heard c.before.before.before.before.read-numbers.ensures.0 c.enum_told.given.1) (search rules) in
+    let t = cells_off _ _ _ _ _ (heard c.before.before.before.before.read-numbers.ensures.0 c.enum_told.given.1) (search rules) in
     (ap read_told c.enum_told.given.1 ∙ t, where_refused _ _ _ t)
 
 same-length-2 : tie.Need-same-length-2
@@ -45,7 +45,7 @@ same-length-3 c = search rules
 returns-4 : tie.Need-returns-4
 returns-4 c =
     let e = heard c.before.before.before.before.before.before.read-numbers.ensures.0 c.before.before.cells.given.1 in
-    (cells-end _ _ _ _ _ e (search rules) (search rules), λ vs q. c.before.before.before.before.before.before.read-numbers.ensures.1 _ e)
+    (cells_end _ _ _ _ _ e (search rules) (search rules), λ vs q. c.before.before.before.before.before.before.read-numbers.ensures.1 _ e)
 
 pub read-cells-spec : {M : Type 1} → statement M
 read-cells-spec =

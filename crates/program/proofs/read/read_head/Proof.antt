@@ -7,7 +7,7 @@ use borrow.Author.Rules.{rules}
 use Rattle.numbers.specs.Answer.{read_told}
 use Rattle.record.proofs.Ways.{heard}
 use Rattle.program.proofs.Cells.{where_refused}
-use Rattle.program.proofs.Heads.{ctx-off, clk-off, head-rest, head-stored}
+use Rattle.program.proofs.Heads.{ctx_off, clk_off, head_rest, head_stored}
 use Rattle.program.proofs.read.read_head.Tie as tie
 use Rattle.program.proofs.read.read_head.Statement.{statement}
 
@@ -22,7 +22,7 @@ enum_told c = search rules
 
 returns : tie.Need-returns
 returns c =
-    let t = ctx-off _ _ _ (heard c.before.before.read_below.ensures c.enum_told.given.1) in
+    let t = ctx_off _ _ _ (heard c.before.before.read_below.ensures c.enum_told.given.1) in
     (ap read_told c.enum_told.given.1 ∙ t, where_refused _ _ _ t)
 
 read-below-requires-2 : tie.Need-read-below-requires-2
@@ -37,7 +37,7 @@ enum-told-2 c = search rules
 returns-2 : tie.Need-returns-2
 returns-2 c =
     let e = heard c.before.before.before.before.before.before.read_below.ensures c.before.before.before.before.ctx.given.1 in
-    let t = clk-off _ _ _ e _ _ (heard c.before.before.read-below2.ensures c.enum-told2.given.1) in
+    let t = clk_off _ _ _ e _ _ (heard c.before.before.read-below2.ensures c.enum-told2.given.1) in
     (ap read_told c.enum-told2.given.1 ∙ t, where_refused _ _ _ t)
 
 slice-write-head : tie.Need-slice-write-head
@@ -57,8 +57,8 @@ returns-3 c =
     let e = heard c.before.before.before.before.before.before.before.before.before.before.before.read_below.ensures c.before.before.before.before.before.before.before.before.before.ctx.given.1 in
     let f = heard c.before.before.before.before.before.before.before.read-below2.ensures c.before.before.before.before.before.clk.given.1 in
     let k = c.before.before.read-numbers in (
-      k.ensures.0 ∙ head-rest _ _ _ e _ _ f,
-      λ vs q. head-stored _ _ _ e _ _ f c.before.before.before.before.before.before.before.before.before.before.before.before.before.before.args.head.now _ (k.ensures.1 vs (head-rest _ _ _ e _ _ f ∙ q)) c.before.before.before.before.before.before.before.before.before.before.before.before.before.before.requires,
+      k.ensures.0 ∙ head_rest _ _ _ e _ _ f,
+      λ vs q. head_stored _ _ _ e _ _ f c.before.before.before.before.before.before.before.before.before.before.before.before.before.before.args.head.now _ (k.ensures.1 vs (head_rest _ _ _ e _ _ f ∙ q)) c.before.before.before.before.before.before.before.before.before.before.before.before.before.before.requires,
     )
 
 pub read-head-spec : {M : Type 1} → statement M

@@ -5,8 +5,8 @@ use borrow.Author.Rules.{rules}
 use Rattle.numbers.specs.Answer.{read_told}
 use Rattle.record.proofs.Ways.{heard}
 use Rattle.program.proofs.Cells.{where_refused}
-use Rattle.program.proofs.Heads.{cells_at_lem, vars-are, evals_are, cells_are}
-use Rattle.program.proofs.Inputs.{head-off, input-cells-off, input-over, input-end, memory-stored}
+use Rattle.program.proofs.Heads.{cells_at_lem, vars_are, evals_are, cells_are}
+use Rattle.program.proofs.Inputs.{head_off, input_cells_off, input_over, input_end, memory-stored}
 use Rattle.program.proofs.read.read_input.Tie as tie
 use Rattle.program.proofs.read.read_input.Statement.{statement}
 
@@ -24,7 +24,7 @@ same_length c = search rules
 
 returns : tie.Need-returns
 returns c =
-    let t = head-off _ _ _ (heard c.before.before.before.before.read_head.ensures.0 c.enum_told.given.1) in
+    let t = head_off _ _ _ (heard c.before.before.before.before.read_head.ensures.0 c.enum_told.given.1) in
     (ap read_told c.enum_told.given.1 ∙ t, where_refused _ _ _ t)
 
 slice-read-read-cells : tie.Need-slice-read-read-cells
@@ -49,7 +49,7 @@ returns-2 : tie.Need-returns-2
 returns-2 c =
     let e = heard c.before.before.before.before.before.before.before.before.before.before.before.before.read_head.ensures.0 c.before.before.before.before.before.before.before.before.numbers.given.1 in
     let q = c.before.before.before.before.before.before.before.before.before.before.before.before.read_head.ensures.1 _ e in
-    let t = input-cells-off _ _ e _ _ (cells_are _ _ q) (cells_at_lem _ _ _ e) _ _ (heard c.before.before.before.before.read-cells.ensures.0 c.enum-told2.given.1) in
+    let t = input_cells_off _ _ e _ _ (cells_are _ _ q) (cells_at_lem _ _ _ e) _ _ (heard c.before.before.before.before.read-cells.ensures.0 c.enum-told2.given.1) in
     (ap read_told c.enum-told2.given.1 ∙ t, where_refused _ _ _ t)
 
 slice-read-over-room : tie.Need-slice-read-over-room
@@ -72,7 +72,7 @@ returns-3 c =
     let e = heard c.before.before.before.before.before.before.before.before.before.before.before.before.before.before.before.before.before.read_head.ensures.0 c.before.before.before.before.before.before.before.before.before.before.before.before.before.numbers.given.1 in
     let q = c.before.before.before.before.before.before.before.before.before.before.before.before.before.before.before.before.before.read_head.ensures.1 _ e in
     let f = heard c.before.before.before.before.before.before.before.before.before.read-cells.ensures.0 c.before.before.before.before.before.cells.given.1 in
-    let t = input-over _ _ e _ _ (cells_are _ _ q) (cells_at_lem _ _ _ e) _ _ f _ _ (vars-are _ _ q) (evals_are _ _ q) (sym c.before.over-room.ensures ∙ c.if1.true) in
+    let t = input_over _ _ e _ _ (cells_are _ _ q) (cells_at_lem _ _ _ e) _ _ f _ _ (vars_are _ _ q) (evals_are _ _ q) (sym c.before.over-room.ensures ∙ c.if1.true) in
     (t, where_refused _ _ _ t)
 
 same-length-6 : tie.Need-same-length-6
@@ -87,7 +87,7 @@ returns-4 c =
     let q = c.before.before.before.before.before.before.before.before.before.before.before.before.before.before.before.before.before.read_head.ensures.1 _ e in
     let k = c.before.before.before.before.before.before.before.before.before.read-cells in
     let f = heard k.ensures.0 c.before.before.before.before.before.cells.given.1 in (
-      input-end _ _ e _ _ (cells_are _ _ q) (cells_at_lem _ _ _ e) _ _ f _ _ (vars-are _ _ q) (evals_are _ _ q) (sym c.before.over-room.ensures ∙ c.if1.false),
+      input_end _ _ e _ _ (cells_are _ _ q) (cells_at_lem _ _ _ e) _ _ f _ _ (vars_are _ _ q) (evals_are _ _ q) (sym c.before.over-room.ensures ∙ c.if1.false),
       λ vs p. record { numbers = q; cells = memory-stored _ _ e _ _ (cells_are _ _ q) (cells_at_lem _ _ _ e) _ _ (k.ensures.1 _ f) },
     )
 

@@ -7,7 +7,7 @@ use lib.ListN.{length}
 use borrow.Author.Rules.{rules}
 use Rattle.field.specs.Lists.{each}
 use Rattle.program.specs.Text.{part}
-use Rattle.program.proofs.Texts.{Wrote, wrote_length, lines_none, number-room, byte-room, line-next}
+use Rattle.program.proofs.Texts.{Wrote, wrote_length, lines_none, number_room, byte_room, line_next}
 use Rattle.program.proofs.text.put_lines.Tie as tie
 use Rattle.program.proofs.text.put_lines.Statement.{statement}
 
@@ -30,7 +30,7 @@ put-decimal-requires : tie.Need-put-decimal-requires invariant-loop decreases-lo
 put-decimal-requires c κs =
     let l = c.before.before.before.loop in
     let s = c.before.before.before.before.before.before in
-    number-room s.args.width s.args.cells.now l.i l.invariant.1 s.args.n (search rules) s.requires.2
+    number_room s.args.width s.args.cells.now l.i l.invariant.1 s.args.n (search rules) s.requires.2
 
 end-of-requires : tie.Need-end-of-requires invariant-loop decreases-loop
 end-of-requires c κs = search rules
@@ -40,13 +40,13 @@ slice-write-out c =
     let l = c.before.before.before.before.before.before.before.loop in
     let s = c.before.before.before.before.before.before.before.before.before.before in
     let p = c.before.before.before.put-decimal in
-    omega (arith, byte-room s.args.width s.args.cells.now l.i l.invariant.1 s.args.n (search rules) s.requires.2 _ p.ensures.0, p.auto.1.0)
+    omega (arith, byte_room s.args.width s.args.cells.now l.i l.invariant.1 s.args.n (search rules) s.requires.2 _ p.ensures.0, p.auto.1.0)
 
 add-next : tie.Need-overflow-add-next invariant-loop decreases-loop
 add-next c =
     let l = c.before.before.before.before.before.before.before.loop in
     let s = c.before.before.before.before.before.before.before.before.before.before in
-    record { fits = omega (arith, byte-room s.args.width s.args.cells.now l.i l.invariant.1 s.args.n (search rules) s.requires.2 _ c.before.before.before.put-decimal.ensures.0) }
+    record { fits = omega (arith, byte_room s.args.width s.args.cells.now l.i l.invariant.1 s.args.n (search rules) s.requires.2 _ c.before.before.before.put-decimal.ensures.0) }
 
 add-i : tie.Need-overflow-add-i invariant-loop decreases-loop
 add-i c = search rules
@@ -59,7 +59,7 @@ loop-again c =
     let l = c.before.before.before.before.before.before.before.loop in
     let s = c.before.before.before.before.before.before.before.before.before.before in
     let p = c.before.before.before.put-decimal in
-    let w = line-next s.args.width s.args.cells.now l.i l.invariant.1 _ _ _ p.ensures.0 p.ensures.1 c.end_of.ensures in
+    let w = line_next s.args.width s.args.cells.now l.i l.invariant.1 _ _ _ p.ensures.0 p.ensures.1 c.end_of.ensures in
     (search rules, w, wrote_length w)
 
 same_length : tie.Need-same-length invariant-loop decreases-loop

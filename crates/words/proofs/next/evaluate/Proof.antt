@@ -6,7 +6,7 @@ use native.Mathlib.Omega.{arith}
 use lib.ListN.{length, get_or, drop}
 use borrow.Author.Rules.{rules}
 use Rattle.words.specs.Text.{value_after, value_of}
-use Rattle.words.proofs.Digits.{value-next, value-end, value_least, judged-large, judged-number}
+use Rattle.words.proofs.Digits.{value_next, value_end, value_least, judged_large, judged_number}
 use Rattle.words.proofs.next.evaluate.Statement.{statement}
 use Rattle.words.proofs.next.evaluate.Tie as tie
 
@@ -33,12 +33,12 @@ returns c =
     let l = c.before.before.before.before.loop in
     let s = c.before.before.before.before.before.before in
     let w = s.args.word.now in
-    judged-large w s.args.end s.requires
+    judged_large w s.args.end s.requires
     (omega (
       arith,
       l.invariant.1,
       c.before.digit-of.ensures,
-      value-next w l.i c.before.before.before.loop-test.true l.value,
+      value_next w l.i c.before.before.before.loop-test.true l.value,
       value_least (drop (l.i + 1) w) (l.value * 10 + (get_or w l.i 0 - 48)),
     ))
 
@@ -60,7 +60,7 @@ loop-again c =
     let w = c.before.before.before.before.before.before.args.word.now in (
       search rules,
       ap (λ (d : ℕ). value_after (l.value * 10 + d) (drop (l.i + 1) w)) c.before.digit-of.ensures
-          ∙ sym (value-next w l.i c.before.before.before.loop-test.true l.value)
+          ∙ sym (value_next w l.i c.before.before.before.loop-test.true l.value)
           ∙ l.invariant.1,
     )
 
@@ -68,7 +68,7 @@ returns-2 : tie.Need-returns-2 invariant-loop decreases-loop
 returns-2 c =
     let l = c.before.loop in
     let s = c.before.before.before in
-    judged-number s.args.word.now s.args.end l.value (sym l.invariant.1 ∙ value-end s.args.word.now l.i c.loop-test.false l.value) l.invariant.0 s.requires
+    judged_number s.args.word.now s.args.end l.value (sym l.invariant.1 ∙ value_end s.args.word.now l.i c.loop-test.false l.value) l.invariant.0 s.requires
 
 pub evaluate-spec : {M : Type 1} → statement M
 evaluate-spec =

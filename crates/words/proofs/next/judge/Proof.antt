@@ -3,7 +3,7 @@
 use mathlib.Core.Path.{sym, ◌∙◌}
 use borrow.Author.Rules.{rules}
 use borrow.Author.Tests.{not-true, not-false}
-use Rattle.words.proofs.Digits.{judged-not}
+use Rattle.words.proofs.Digits.{judged_not}
 use Rattle.words.proofs.next.judge.Statement.{statement}
 use Rattle.words.proofs.next.judge.Tie as tie
 
@@ -11,7 +11,7 @@ all-digits-requires : tie.Need-all-digits-requires
 all-digits-requires c κs = search rules
 
 returns : tie.Need-returns
-returns c = judged-not _ _ (sym c.before.all_digits.ensures ∙ not-true _ c.if1.true)
+returns c = judged_not _ _ (sym c.before.all_digits.ensures ∙ not-true _ c.if1.true)
 
 evaluate-requires : tie.Need-evaluate-requires
 evaluate-requires c κs = sym c.before.all_digits.ensures ∙ not-false _ c.if1.false

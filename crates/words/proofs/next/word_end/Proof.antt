@@ -6,7 +6,7 @@ use native.Mathlib.Omega.{arith}
 use lib.ListN.{length, drop}
 use borrow.Author.Rules.{rules}
 use Rattle.words.specs.Inside.{lead}
-use Rattle.words.proofs.Places.{lead-next, lead-here, lead-end}
+use Rattle.words.proofs.Places.{lead_next, lead-here, lead_end}
 use Rattle.words.proofs.next.word_end.Statement.{statement}
 use Rattle.words.proofs.next.word_end.Tie as tie
 
@@ -35,10 +35,10 @@ loop-less : tie.Need-loop-smaller invariant-loop decreases-loop
 loop-less c = search rules
 
 loop-again : tie.Need-loop-preserved invariant-loop decreases-loop
-loop-again c = omega (arith, c.before.before.before.before.loop.invariant, lead-next c.before.before.before.before.before.before.args.text.now c.before.before.before.before.loop.at c.before.before.before.loop-test.true (sym c.before.is-parting.ensures ∙ c.if1.false))
+loop-again c = omega (arith, c.before.before.before.before.loop.invariant, lead_next c.before.before.before.before.before.before.args.text.now c.before.before.before.before.loop.at c.before.before.before.loop-test.true (sym c.before.is-parting.ensures ∙ c.if1.false))
 
 returns-2 : tie.Need-returns-2 invariant-loop decreases-loop
-returns-2 c = omega (arith, c.before.loop.invariant, lead-end c.before.before.before.args.text.now c.before.loop.at c.loop-test.false)
+returns-2 c = omega (arith, c.before.loop.invariant, lead_end c.before.before.before.args.text.now c.before.loop.at c.loop-test.false)
 
 pub word-end-spec : {M : Type 1} → statement M
 word-end-spec =

@@ -7,7 +7,7 @@ use lib.ListN.{length, drop}
 use borrow.Author.Rules.{rules}
 use borrow.Author.Tests.{not-true, not-false}
 use Rattle.words.specs.Inside.{gap}
-use Rattle.words.proofs.Places.{gap-next, gap_here, gap-end}
+use Rattle.words.proofs.Places.{gap_next, gap_here, gap_end}
 use Rattle.words.proofs.next.word_start.Statement.{statement}
 use Rattle.words.proofs.next.word_start.Tie as tie
 
@@ -36,10 +36,10 @@ loop-less : tie.Need-loop-smaller invariant-loop decreases-loop
 loop-less c = search rules
 
 loop-again : tie.Need-loop-preserved invariant-loop decreases-loop
-loop-again c = omega (arith, c.before.before.before.before.loop.invariant, gap-next c.before.before.before.before.before.before.args.text.now c.before.before.before.before.loop.at c.before.before.before.loop-test.true (sym c.before.is-parting.ensures ∙ not-false _ c.if1.false))
+loop-again c = omega (arith, c.before.before.before.before.loop.invariant, gap_next c.before.before.before.before.before.before.args.text.now c.before.before.before.before.loop.at c.before.before.before.loop-test.true (sym c.before.is-parting.ensures ∙ not-false _ c.if1.false))
 
 returns-2 : tie.Need-returns-2 invariant-loop decreases-loop
-returns-2 c = omega (arith, c.before.loop.invariant, gap-end c.before.before.before.args.text.now c.before.loop.at c.loop-test.false)
+returns-2 c = omega (arith, c.before.loop.invariant, gap_end c.before.before.before.args.text.now c.before.loop.at c.loop-test.false)
 
 pub word-start-spec : {M : Type 1} → statement M
 word-start-spec =
