@@ -1,5 +1,5 @@
 #!/bin/sh
-# Times proved whole evaluation, as `rt staticlib circuits_c` exports it, against plain Rust, in one run.
+# Times proved whole evaluation, as `rt staticlib ace_c` exports it, against plain Rust, in one run.
 set -eu
 cd "$(dirname "$0")/.."
 work=$(mktemp -d)
@@ -8,7 +8,6 @@ trap 'rm -rf "$work"' EXIT
 . benches/archive.sh
 
 archive_of ace_c
-archive_of circuits_c
 build="rustc --edition 2021 -O -D warnings -L $work"
 $build -L "$archive" --crate-type rlib --crate-name ace bindings/rust/src/lib.rs -o "$work/libace.rlib"
 $build --crate-type rlib --extern ace benches/plain_circuit.rs -o "$work/libplain_circuit.rlib"

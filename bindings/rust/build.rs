@@ -9,15 +9,13 @@ fn main() {
         Some(folder) => PathBuf::from(folder),
         None => Path::new(&here).join("../../target/staticlib"),
     };
+    let archive = folder.join("libace_c.a");
     println!("cargo:rerun-if-env-changed=ACE_C_DIR");
-    for name in ["ace_c", "circuits_c"] {
-        let archive = folder.join(format!("lib{name}.a"));
-        println!("cargo:rerun-if-changed={}", archive.display());
-        assert!(
-            archive.is_file(),
-            "{} is not there: `rt staticlib {name}` writes it",
-            archive.display()
-        );
-    }
+    println!("cargo:rerun-if-changed={}", archive.display());
+    assert!(
+        archive.is_file(),
+        "{} is not there: `rt staticlib ace_c` writes it",
+        archive.display()
+    );
     println!("cargo:rustc-link-search=native={}", folder.display());
 }

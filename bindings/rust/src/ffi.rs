@@ -1,4 +1,4 @@
-//! The functions of libcircuits_c.a and libace_c.a. A slice is a pointer and a length; what has a fixed number of cells
+//! The functions of libace_c.a. A slice is a pointer and a length; what has a fixed number of cells
 //! is a reference. All that `bindings/ace.h` asks of a caller, slices and references keep.
 
 use crate::runs::{Entry, MOST_RUNS};
@@ -9,7 +9,7 @@ pub type HeaderNumbers = [u64; 5];
 /// ctx, clk, num_read, num_eval, reads_done, evals_done.
 pub type StateNumbers = [u32; 6];
 
-#[link(name = "circuits_c", kind = "static")]
+#[link(name = "ace_c", kind = "static")]
 extern "C" {
     pub fn ace_eval_circuit(
         ctx: u32,
@@ -28,10 +28,7 @@ extern "C" {
         header: &mut HeaderNumbers,
         place: &mut u64,
     ) -> u32;
-}
 
-#[link(name = "ace_c", kind = "static")]
-extern "C" {
     pub fn ace_new(
         ctx: u32,
         clk: u32,

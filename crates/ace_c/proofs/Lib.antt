@@ -1,3 +1,4 @@
+pub mod Parts
 pub mod Outcomes
 pub mod Threes
 pub mod Turns

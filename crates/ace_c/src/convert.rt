@@ -1,5 +1,6 @@
 // States, headers and run lists from numbers and back.
 ghost use Rattle.std.specs.Prelude.{◌≡◌};
+ghost use Rattle.trace.specs.Output.{header_numbers};
 ghost use Rattle.ace_c.specs.States.{state_of, six_of, header_by};
 ghost use Rattle.ace_c.specs.Lists.{list_of, threes_of};
 
@@ -49,6 +50,18 @@ pub(crate) fn header_of(
         num_eval: num_eval,
         id_next: id_next,
     }
+}
+
+pub(crate) fn header_numbers(header: RecordHeader) -> [u64; 5]
+    ensures { result ≡ header_numbers header }
+{
+    [
+        header.ctx as u64,
+        header.clk as u64,
+        header.num_read as u64,
+        header.num_eval as u64,
+        header.id_next,
+    ]
 }
 
 pub(crate) fn list_of(numbers: [u32; 96], len: u32) -> Ace

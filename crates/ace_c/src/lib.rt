@@ -1,4 +1,4 @@
-// The calls of `trace`, `rows`, `record` and `runs` for callers in Rust and C, to
+// The calls of `eval_circuit`, `trace`, `rows`, `record` and `runs` for callers in Rust and C, to
 // which a slice is a pointer and a length. Each gives 0 or a refusal's number. A refusal's place
 // goes into `place`, and 0 where there is none; a refusal leaves alone what an answer goes into.
 // A state is ctx, clk, num_read, num_eval, reads_done, evals_done and, beside them, id_next. A
@@ -6,6 +6,7 @@
 // num_eval of each entry, and beside them its length.
 #![tactic(auto)]
 
+pub mod circuits;
 mod convert;
 pub mod fill;
 pub mod lists;

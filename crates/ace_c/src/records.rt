@@ -7,8 +7,7 @@ ghost use Rattle.record.specs.Reading.{read_from_answer, read_buffers};
 ghost use Rattle.ace_c.specs.States.{state_of, header_by};
 
 use crate::convert::{header_of, state_of};
-use crate::tell::tell_write;
-use headers::tell_header;
+use crate::tell::{tell_header, tell_write};
 use record::{read_from, write_into, write_state_into};
 
 #[unsafe(no_mangle)]

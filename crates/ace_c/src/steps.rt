@@ -9,8 +9,7 @@ ghost use Rattle.trace.specs.Output.{output_answer};
 ghost use Rattle.ace_c.specs.States.{state_of, six_of, word_by};
 
 use crate::convert::state_of;
-use crate::tell::{tell_open, tell_step};
-use headers::tell_output;
+use crate::tell::{tell_open, tell_output, tell_step};
 use trace::CircuitEvaluation;
 
 #[unsafe(no_mangle)]

@@ -2,6 +2,8 @@
 ghost use Rattle.std.specs.Prelude.{◌≡◌};
 ghost use Rattle.field.specs.Codes.{code, value_or, values_or, place_told};
 ghost use Rattle.trace.specs.Open.{open_told};
+ghost use Rattle.trace.specs.Output.{output_told};
+ghost use Rattle.trace.specs.Record.{header_told};
 ghost use Rattle.eval_circuit.specs.Inside.{step_told};
 ghost use Rattle.numbers.specs.Answer.{write_told};
 ghost use Rattle.rows.specs.Fill.{fill_told};
@@ -9,11 +11,11 @@ ghost use Rattle.runs.specs.Calls.{rows_told, add_told};
 ghost use Rattle.ace_c.specs.States.{six_of};
 ghost use Rattle.ace_c.specs.Inside.{step_state};
 
-use crate::convert::state_numbers;
+use crate::convert::{header_numbers, state_numbers};
 use numbers::WriteAnswer;
 use rows::FillAnswer;
 use runs::{AddAnswer, RowsAnswer};
-use trace::{OpenAnswer, StepAnswer};
+use trace::{HeaderAnswer, OpenAnswer, OutputAnswer, StepAnswer};
 
 pub(crate) fn tell_open(
     answer: OpenAnswer,
@@ -61,6 +63,42 @@ pub(crate) fn tell_step(
         StepAnswer::Refused(after, number, at) => {
             *state = state_numbers(after);
             *id_next = after.id_next;
+            *place = at;
+            number
+        }
+    }
+}
+
+pub(crate) fn tell_output(answer: OutputAnswer, header: &mut [u64; 5], place: &mut u64) -> u32
+    ensures value { result ≡ code (output_told answer) }
+    ensures header_after { header.new ≡ values_or 5 header.old (output_told answer) }
+    ensures place_after { place.new ≡ place_told (output_told answer) }
+{
+    match answer {
+        OutputAnswer::Zero(record) => {
+            *header = header_numbers(record);
+            *place = 0;
+            0
+        }
+        OutputAnswer::Refused(number, at) => {
+            *place = at;
+            number
+        }
+    }
+}
+
+pub(crate) fn tell_header(answer: HeaderAnswer, header: &mut [u64; 5], place: &mut u64) -> u32
+    ensures value { result ≡ code (header_told answer) }
+    ensures header_after { header.new ≡ values_or 5 header.old (header_told answer) }
+    ensures place_after { place.new ≡ place_told (header_told answer) }
+{
+    match answer {
+        HeaderAnswer::Header(record) => {
+            *header = header_numbers(record);
+            *place = 0;
+            0
+        }
+        HeaderAnswer::Refused(number, at) => {
             *place = at;
             number
         }

@@ -2,6 +2,7 @@
 -- Assumes nothing.
 use Rattle.determined.specs.Determined.{Determined}
 use Rattle.determined.proofs.Same.{same}
+use Rattle.ace_c.proofs.circuits.ace_eval_circuit as ace-eval-circuit
 use Rattle.ace_c.proofs.steps.ace_new as ace-new
 use Rattle.ace_c.proofs.steps.ace_do_read as ace-do-read
 use Rattle.ace_c.proofs.steps.ace_do_eval as ace-do-eval
@@ -14,6 +15,11 @@ use Rattle.ace_c.proofs.records.ace_read_from as ace-read-from
 use Rattle.ace_c.proofs.lists.ace_add_circuit_evaluation as ace-add-circuit-evaluation
 use Rattle.ace_c.proofs.lists.ace_trace_len as ace-trace-len
 use Rattle.ace_c.proofs.lists.ace_first_row as ace-first-row
+
+pub ace_eval_circuit_determined : Determined ace-eval-circuit.ended ace-eval-circuit.Reads.Learnt
+ace_eval_circuit_determined κs a o q e f =
+    let b = same e.1.1.1 f.1.1.1 in
+    λ i. (same e.0 f.0 i, (_, (_, (_, (_, (_, (_, ((b i).values, ((b i).counts, ((b i).nodes, (same e.1.0 f.1.0 i, (same e.1.1.0 f.1.1.0 i, _))))))))))))
 
 pub ace_new_determined : Determined ace-new.ended ace-new.Reads.Learnt
 ace_new_determined κs a o q e f = λ i. (same e.0 f.0 i, (_, (_, (_, (_, (_, (_, (_, (same e.1.0 f.1.0 i, (same e.1.1.0 f.1.1.0 i, (same e.1.1.1 f.1.1.1 i, _)))))))))))

@@ -12,5 +12,4 @@ pub mod InPlace
 pub mod Program
 pub mod Words
 pub mod NumbersC
-pub mod EvaluationC
 pub mod AceC
