@@ -15,4 +15,4 @@ returns-in-Bytes c =
 pub returns-in_default : goal.returns-in_default
 returns-in_default c =
     let m = c.measure-answer in
-    record { value = m.ensures; out_after = kept _ _ m.result m.ensures c.in-Bytes.keys2 }
+    record { value = m.ensures; out_after = kept _ _ m.result m.ensures c.in_default.not-Bytes }

@@ -16,9 +16,9 @@ pub returns-then-room-at : goal.returns-then-room-at
 returns-then-room-at c =
     let l = c.loop-v in
     let s = c in
-    let n = c.found.given in
-    let e : Number n.0.0 n.0.1.0 ≡ word_from s.args.text.now l.from = sym n.1 ∙ c.next_word-found.ensures in
-    measure_no_room s.args.room l.word l.at s.args.text.now l.from n.0.0 n.0.1.0 e (omega arith) ∙ l.invariant.3
+    let n = c.in-Number in
+    let e : Number n.v n.next ≡ word_from s.args.text.now l.from = sym n.is ∙ c.next_word-found.ensures in
+    measure_no_room s.args.room l.word l.at s.args.text.now l.from n.v n.next e (omega arith) ∙ l.invariant.3
 
 pub returns-in-NotDigits : goal.returns-in-NotDigits
 returns-in-NotDigits c =
@@ -42,27 +42,27 @@ pub overflow_add-word : goal.overflow_add-word
 overflow_add-word c =
     let l = c.loop-v in
     let s = c in
-    let n = c.found.given in
-    let e : Number n.0.0 n.0.1.0 ≡ word_from s.args.text.now l.from = sym n.1 ∙ c.next_word-found.ensures in
-    let f = found s.args.text.now l.from n.0.0 n.0.1.0 e in omega (arith, f.further, f.within)
+    let n = c.in-Number in
+    let e : Number n.v n.next ≡ word_from s.args.text.now l.from = sym n.is ∙ c.next_word-found.ensures in
+    let f = found s.args.text.now l.from n.v n.next e in omega (arith, f.further, f.within)
 
 pub loop-v-smaller : goal.loop-v-smaller
 loop-v-smaller c =
     let l = c.loop-v in
     let s = c in
-    let n = c.found.given in
-    let e : Number n.0.0 n.0.1.0 ≡ word_from s.args.text.now l.from = sym n.1 ∙ c.next_word-found.ensures in
-    let f = found s.args.text.now l.from n.0.0 n.0.1.0 e in omega (arith, f.further, f.within)
+    let n = c.in-Number in
+    let e : Number n.v n.next ≡ word_from s.args.text.now l.from = sym n.is ∙ c.next_word-found.ensures in
+    let f = found s.args.text.now l.from n.v n.next e in omega (arith, f.further, f.within)
 
 pub loop-v-preserved : goal.loop-v-preserved
 loop-v-preserved c =
     let l = c.loop-v in
     let s = c in
-    let n = c.found.given in
-    let e : Number n.0.0 n.0.1.0 ≡ word_from s.args.text.now l.from = sym n.1 ∙ c.next_word-found.ensures in
-    let f = found s.args.text.now l.from n.0.0 n.0.1.0 e in (
+    let n = c.in-Number in
+    let e : Number n.v n.next ≡ word_from s.args.text.now l.from = sym n.is ∙ c.next_word-found.ensures in
+    let f = found s.args.text.now l.from n.v n.next e in (
       f.within,
       omega (arith, f.further),
       omega arith,
-      measure_next s.args.room l.word l.at s.args.text.now l.from n.0.0 n.0.1.0 _ _ e (omega arith) (omega arith) (omega arith) ∙ l.invariant.3,
+      measure_next s.args.room l.word l.at s.args.text.now l.from n.v n.next _ _ e (omega arith) (omega arith) (omega arith) ∙ l.invariant.3,
     )

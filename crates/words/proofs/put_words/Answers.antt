@@ -20,30 +20,30 @@ pub returns-in_default : goal.returns-in_default
 returns-in_default c =
     let l = c.loop-v in
     let s = c in
-    let n = c.found.given in
+    let n = c.in-Number in
     let w = c.write-written in
-    let e : Number n.0.0 n.0.1.0 ≡ word_from s.args.text.now l.from = sym n.1 ∙ c.next_word-found.ensures in
-    absurd (putting.put_refused _ _ _ (put_room l.invariant.1 n.0.0 n.0.1.0 e) _ _ (ap write_told (sym c.in_default.is) ∙ w.ensures.result_value))
+    let e : Number n.v n.next ≡ word_from s.args.text.now l.from = sym n.is ∙ c.next_word-found.ensures in
+    absurd (putting.put_refused _ _ _ (put_room l.invariant.1 n.v n.next e) _ _ (ap write_told (sym c.in_default.is) ∙ w.ensures.result_value))
 
 pub loop-v-smaller : goal.loop-v-smaller
 loop-v-smaller c =
     let l = c.loop-v in
     let s = c in
-    let n = c.found.given in
+    let n = c.in-Number in
     let w = c.write-written in
-    let e : Number n.0.0 n.0.1.0 ≡ word_from s.args.text.now l.from = sym n.1 ∙ c.next_word-found.ensures in
-    let f = found s.args.text.now l.from n.0.0 n.0.1.0 e in omega (arith, f.further, f.within)
+    let e : Number n.v n.next ≡ word_from s.args.text.now l.from = sym n.is ∙ c.next_word-found.ensures in
+    let f = found s.args.text.now l.from n.v n.next e in omega (arith, f.further, f.within)
 
 pub loop-v-preserved : goal.loop-v-preserved
 loop-v-preserved c =
     let l = c.loop-v in
     let s = c in
-    let n = c.found.given in
+    let n = c.in-Number in
     let w = c.write-written in
-    let e : Number n.0.0 n.0.1.0 ≡ word_from s.args.text.now l.from = sym n.1 ∙ c.next_word-found.ensures in
-    let h = put_room l.invariant.1 n.0.0 n.0.1.0 e in (
-      (found s.args.text.now l.from n.0.0 n.0.1.0 e).within,
-      put_next l.invariant.1 n.0.0 n.0.1.0 e _ _ (w.ensures.out_after ∙ room-written _ _ _ h) (putting.put_next _ _ _ h _ (ap write_told (sym c.in-Next.is) ∙ w.ensures.result_value)),
+    let e : Number n.v n.next ≡ word_from s.args.text.now l.from = sym n.is ∙ c.next_word-found.ensures in
+    let h = put_room l.invariant.1 n.v n.next e in (
+      (found s.args.text.now l.from n.v n.next e).within,
+      put_next l.invariant.1 n.v n.next e _ _ (w.ensures.out_after ∙ room-written _ _ _ h) (putting.put_next _ _ _ h _ (ap write_told (sym c.in-Next.is) ∙ w.ensures.result_value)),
     )
 
 pub shape_of-out-in-NotDigits : goal.shape_of-out-in-NotDigits

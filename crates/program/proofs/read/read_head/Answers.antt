@@ -30,10 +30,8 @@ pub returns : goal.returns
 returns c =
     let e = heard c.read_below-ctx.ensures c.in-Number.is in
     let f = heard c.read_below-clk.ensures c.in-Number-clk.is in
-    record { result_value = (let k = c.read_numbers in (
-      k.ensures.result_value ∙ head_rest _ _ _ e _ _ f,
-      λ vs q. head_stored _ _ _ e _ _ f c.args.head.now _ (k.ensures.where_accepted vs (head_rest _ _ _ e _ _ f ∙ q)) c.requires,
-    )).0; where_accepted = (let k = c.read_numbers in (
-      k.ensures.result_value ∙ head_rest _ _ _ e _ _ f,
-      λ vs q. head_stored _ _ _ e _ _ f c.args.head.now _ (k.ensures.where_accepted vs (head_rest _ _ _ e _ _ f ∙ q)) c.requires,
-    )).1 }
+    let k = c.read_numbers in
+    record {
+      result_value = k.ensures.result_value ∙ head_rest _ _ _ e _ _ f;
+      where_accepted = λ vs q. head_stored _ _ _ e _ _ f c.args.head.now _ (k.ensures.where_accepted vs (head_rest _ _ _ e _ _ f ∙ q)) c.requires;
+    }

@@ -33,7 +33,8 @@ returns c =
     let e = heard c.read_head-numbers.ensures.result_value c.in-Number.is in
     let q = c.read_head-numbers.ensures.where_accepted _ e in
     let k = c.read_cells-cells in
-    let f = heard k.ensures.result_value c.in-Number-cells.is in (
-      input_end _ _ e _ _ (cells_are _ _ q) (cells_at_lem _ _ _ e) _ _ f _ _ (vars_are _ _ q) (evals_are _ _ q) (sym c.over_room.ensures ∙ c.if-over_room.false),
-      λ vs p. record { numbers = q; cells = memory-stored _ _ e _ _ (cells_are _ _ q) (cells_at_lem _ _ _ e) _ _ (k.ensures.where_accepted _ f) },
-    )
+    let f = heard k.ensures.result_value c.in-Number-cells.is in
+    record {
+      result_value = input_end _ _ e _ _ (cells_are _ _ q) (cells_at_lem _ _ _ e) _ _ f _ _ (vars_are _ _ q) (evals_are _ _ q) (sym c.over_room.ensures ∙ c.if-over_room.false);
+      where_accepted = λ vs p. record { numbers = q; cells = memory-stored _ _ e _ _ (cells_are _ _ q) (cells_at_lem _ _ _ e) _ _ (k.ensures.where_accepted _ f) };
+    }
