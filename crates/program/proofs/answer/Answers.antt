@@ -47,6 +47,9 @@ returns c =
     let e = heard k.ensures.result_value c.in_default.is in
     let g = input_given _ _ _ _ _ e k.ensures.where_accepted refl in
     let p = c.evaluate in
-    record { value = (text_there c.args.input.now c.args.out.now _ _ _ p.ensures.value p.ensures.out_after
-    (input_evaluated _ _ _ _ _ _ _ _ e g.ctx g.clk g.ptr g.vars g.evals g.cells) (search rules)).0; out_after = (text_there c.args.input.now c.args.out.now _ _ _ p.ensures.value p.ensures.out_after
-    (input_evaluated _ _ _ _ _ _ _ _ e g.ctx g.clk g.ptr g.vars g.evals g.cells) (search rules)).1 }
+    record {
+      value = (text_there c.args.input.now c.args.out.now _ _ _ p.ensures.value p.ensures.out_after
+          (input_evaluated _ _ _ _ _ _ _ _ e g.ctx g.clk g.ptr g.vars g.evals g.cells) (search rules)).0;
+      out_after = (text_there c.args.input.now c.args.out.now _ _ _ p.ensures.value p.ensures.out_after
+          (input_evaluated _ _ _ _ _ _ _ _ e g.ctx g.clk g.ptr g.vars g.evals g.cells) (search rules)).1;
+    }

@@ -1,6 +1,5 @@
 -- `ace_c::convert::list_of` meets its contract.
 -- Assumes nothing.
-use Prim.Native.Nat.{◌-◌}
 use native.Mathlib.Omega.{arith}
 use borrow.Author.Rules.{rules}
 use Rattle.ace_c.proofs.Turns.{read_start, read_on, read_end}

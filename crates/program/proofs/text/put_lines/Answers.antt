@@ -1,7 +1,6 @@
 -- `program::text::put_lines` meets its contract.
 -- Assumes nothing.
 use mathlib.Core.Path.{◌≡◌, refl}
-use Prim.Native.Nat.{◌-◌}
 use native.Mathlib.Omega.{arith}
 use borrow.Author.Rules.{rules}
 use Rattle.program.proofs.Texts.{wrote_length, lines_none, number_room, byte_room, line_next}

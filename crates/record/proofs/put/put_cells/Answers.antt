@@ -1,7 +1,6 @@
 -- `record::put::put_cells` meets its contract.
 -- Assumes nothing.
 use mathlib.Core.Path.{◌≡◌, refl}
-use Prim.Native.Nat.{◌-◌}
 use native.Mathlib.Omega.{arith}
 use borrow.Author.Rules.{rules}
 use Rattle.record.proofs.Putting.{wrote_none, cell_room, cell_wrote}

@@ -1,7 +1,6 @@
 -- `words::next::all_digits` meets its contract.
 -- Assumes nothing.
 use mathlib.Core.Path.{refl, sym, ◌∙◌}
-use Prim.Native.Nat.{◌-◌}
 use Rattle.words.proofs.Digits.{digits_next, digits_stop, digits_end}
 use Rattle.words.proofs.next.all_digits.Goals as goal
 

@@ -1,7 +1,6 @@
 -- `words::next::word_end` meets its contract.
 -- Assumes nothing.
 use mathlib.Core.Path.{refl, sym, ◌∙◌}
-use Prim.Native.Nat.{◌-◌}
 use native.Mathlib.Omega.{arith}
 use Rattle.words.proofs.Places.{lead_next, lead-here, lead_end}
 use Rattle.words.proofs.next.word_end.Goals as goal

@@ -1,7 +1,6 @@
 -- `words::next::word_start` meets its contract.
 -- Assumes nothing.
 use mathlib.Core.Path.{refl, sym, ◌∙◌}
-use Prim.Native.Nat.{◌-◌}
 use native.Mathlib.Omega.{arith}
 use Rattle.words.proofs.Places.{gap_next, gap_here, gap_end}
 use Rattle.words.proofs.next.word_start.Goals as goal
