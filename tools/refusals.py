@@ -74,7 +74,10 @@ def checked(made, copies):
     copy = copies.get()
     try:
         crate = copy / "crates" / made[0].crate
-        texts = wrong.texts(made, crate)
+        try:
+            texts = wrong.texts(made, crate)
+        except ValueError as error:
+            return [f"{made[0].crate}/{made[0].edit} cannot be applied: {error}"]
         before = {file: (crate / file).read_text("utf-8") for file in texts}
         for file, text in texts.items():
             (crate / file).write_text(text, "utf-8")

@@ -47,10 +47,12 @@ def of_edit(edit):
 
 
 def texts(made, crate):
-    """The files of a crate's folder that an edit changes, as it leaves them."""
+    """The files of a crate's folder that an edit changes, as it leaves them. A text that it replaces stands there once."""
     changed = {}
     for file, old, new in (change for program in made for change in program.changes):
         text = changed.get(file) or (crate / file).read_text("utf-8")
+        if text.count(old) != 1:
+            raise ValueError(f"{file} has {text.count(old)} times, not once, the text '{old}'")
         changed[file] = text.replace(old, new)
     return changed
 
