@@ -22,7 +22,7 @@ OPEN = re.compile(r"note: src/\S+:\d+:\d+: it is not proved that (.*)")
 FUNCTION = re.compile(r"fn (\w+)::(\S+): ")
 FORM = ("has no field `", "has no `", "is not in scope")
 # Said of what rests on a part that failed, and where the prover gave up: neither is a fact that fails.
-NO_FACT = ("was not admitted", "stopped at a bound of its own", "gave up at one of its limits")
+NO_FACT = ("was not admitted", "was not checked", "were not checked", "stopped at a bound of its own", "gave up at one of its limits")
 
 
 def places(said):
@@ -49,7 +49,7 @@ def places(said):
 def refusals(made, said):
     """What is amiss in the prover's log of an edit."""
     name = f"{made[0].crate}/{made[0].edit}"
-    if not said.splitlines() or "logic=not-proved" not in said.splitlines():
+    if not re.search(r"^logic=not-proved", said, re.M):
         yield f"{name}: the prover gave no verdict, or proved it: {LOGS / name}.log"
         return
     facts, form = places(said)
