@@ -143,10 +143,31 @@ def fields(text, f, own):
         return "." + ".".join(rest)
 
     text = re.sub(r"(?:\.(?:" + TOKEN + r"))+", path, text)
+    text = let_bound(text, f)
     for step, names in f.clauses.items():
         if len(names) > 1:
-            said = r"(?<![\w.])([\w'₀-₉]+\." + re.escape(step) + r"\.ensures)(?![.\w'-])"
+            said = r"(?<![\w.])([\w'₀-₉]+\." + re.escape(step) + r"\.ensures)(?![.\w'-])(?!\s+in\b)"
             text = re.sub(said, lambda m: "(" + ", ".join(m[1] + "." + n for n in names) + ")", text)
+    return text
+
+
+def let_bound(text, f):
+    """Parts of a step, or of what it ensures, that a `let` has a name for."""
+    for m in list(re.finditer(r"\blet ([\w'₀-₉]+) = [\w'₀-₉]+\.([^\s.()]+)(\.ensures)? in\b", text)):
+        names, params = f.clauses.get(m[2]), f.params.get(m[2])
+
+        def part(n, is_ensures=bool(m[3]), names=names, params=params):
+            rest = n[1].split(".")[1:]
+            if is_ensures and names:
+                rest = clause_path(rest, names)
+            elif rest[:1] == ["ensures"] and names:
+                rest[1:] = clause_path(rest[1:], names)
+            elif rest[:1] in (["new"], ["auto"]) and params:
+                rest[1:] = param_path(rest[1:], params)
+            return n[0][: len(n[0]) - len(n[1])] + "." + ".".join(rest)
+
+        start = text.index(m[0]) + len(m[0])
+        text = text[:start] + re.sub(r"(?<![\w.'])" + re.escape(m[1]) + r"((?:\.[^\s.()\[\]{};,]+)+)", part, text[start:])
     return text
 
 

@@ -1,5 +1,3 @@
-pub mod Parts
-pub mod Outcomes
 pub mod Threes
 pub mod Turns
 pub mod Kept

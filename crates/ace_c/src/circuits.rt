@@ -7,8 +7,7 @@ ghost use Rattle.eval_circuit.specs.Evaluated.{eval_answer, eval_buffers};
 use crate::tell::tell_output;
 use eval_circuit::eval_circuit;
 
-#[unsafe(no_mangle)]
-pub extern "C" fn ace_eval_circuit(
+pub fn ace_eval_circuit(
     ctx: u32,
     clk: u32,
     ptr: u64,

@@ -9,8 +9,7 @@ use crate::convert::{header_of, state_of};
 use crate::tell::tell_fill;
 use rows::{fill, fill_state};
 
-#[unsafe(no_mangle)]
-pub extern "C" fn ace_fill(
+pub fn ace_fill(
     ctx: u32,
     clk: u32,
     num_read: u32,
@@ -32,8 +31,7 @@ pub extern "C" fn ace_fill(
     tell_fill(answer, place)
 }
 
-#[unsafe(no_mangle)]
-pub extern "C" fn ace_fill_state(
+pub fn ace_fill_state(
     state: &[u32; 6],
     id_next: u64,
     values: &[u64],

@@ -8,8 +8,7 @@ use crate::convert::{entries_of, list_of};
 use crate::tell::{tell_added, tell_rows};
 use runs::Entry;
 
-#[unsafe(no_mangle)]
-pub extern "C" fn ace_add_circuit_evaluation(
+pub fn ace_add_circuit_evaluation(
     entries: &mut [u32; 96],
     len: &mut u32,
     clk: u32,
@@ -34,13 +33,7 @@ pub extern "C" fn ace_add_circuit_evaluation(
     tell_added(answer, place)
 }
 
-#[unsafe(no_mangle)]
-pub extern "C" fn ace_trace_len(
-    entries: &[u32; 96],
-    len: u32,
-    rows_total: &mut u64,
-    place: &mut u64,
-) -> u32
+pub fn ace_trace_len(entries: &[u32; 96], len: u32, rows_total: &mut u64, place: &mut u64) -> u32
     ensures value { result ≡ code (total_answer (list_of entries.now len)) }
     ensures rows_total_after { rows_total.new ≡ value_or 0 rows_total.old (total_answer (list_of entries.now len)) }
     ensures place_after { place.new ≡ place_told (total_answer (list_of entries.now len)) }
@@ -49,14 +42,7 @@ pub extern "C" fn ace_trace_len(
     tell_rows(answer, rows_total, place)
 }
 
-#[unsafe(no_mangle)]
-pub extern "C" fn ace_first_row(
-    entries: &[u32; 96],
-    len: u32,
-    clk: u32,
-    row: &mut u64,
-    place: &mut u64,
-) -> u32
+pub fn ace_first_row(entries: &[u32; 96], len: u32, clk: u32, row: &mut u64, place: &mut u64) -> u32
     ensures value { result ≡ code (first_row_answer (list_of entries.now len) clk) }
     ensures row_after { row.new ≡ value_or 0 row.old (first_row_answer (list_of entries.now len) clk) }
     ensures place_after { place.new ≡ place_told (first_row_answer (list_of entries.now len) clk) }

@@ -10,8 +10,7 @@ use crate::convert::{header_of, state_of};
 use crate::tell::{tell_header, tell_write};
 use record::{read_from, write_into, write_state_into};
 
-#[unsafe(no_mangle)]
-pub extern "C" fn ace_write_into(
+pub fn ace_write_into(
     ctx: u32,
     clk: u32,
     num_read: u32,
@@ -34,8 +33,7 @@ pub extern "C" fn ace_write_into(
     tell_write(answer, length, place)
 }
 
-#[unsafe(no_mangle)]
-pub extern "C" fn ace_write_state_into(
+pub fn ace_write_state_into(
     state: &[u32; 6],
     id_next: u64,
     values: &[u64],
@@ -55,8 +53,7 @@ pub extern "C" fn ace_write_state_into(
     tell_write(answer, length, place)
 }
 
-#[unsafe(no_mangle)]
-pub extern "C" fn ace_read_from(
+pub fn ace_read_from(
     bytes: &[u8],
     values: &mut [u64],
     counts: &mut [u32],

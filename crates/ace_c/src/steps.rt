@@ -12,8 +12,7 @@ use crate::convert::state_of;
 use crate::tell::{tell_open, tell_output, tell_step};
 use trace::CircuitEvaluation;
 
-#[unsafe(no_mangle)]
-pub extern "C" fn ace_new(
+pub fn ace_new(
     ctx: u32,
     clk: u32,
     num_read: u32,
@@ -34,8 +33,7 @@ pub extern "C" fn ace_new(
     tell_open(answer, state, id_next, place)
 }
 
-#[unsafe(no_mangle)]
-pub extern "C" fn ace_do_read(
+pub fn ace_do_read(
     state: &mut [u32; 6],
     id_next: &mut u64,
     ptr: u64,
@@ -59,8 +57,7 @@ pub extern "C" fn ace_do_read(
     tell_step(answer, state, id_next, place)
 }
 
-#[unsafe(no_mangle)]
-pub extern "C" fn ace_do_eval(
+pub fn ace_do_eval(
     state: &mut [u32; 6],
     id_next: &mut u64,
     ptr: u64,
@@ -81,8 +78,7 @@ pub extern "C" fn ace_do_eval(
     tell_step(answer, state, id_next, place)
 }
 
-#[unsafe(no_mangle)]
-pub extern "C" fn ace_output_value(
+pub fn ace_output_value(
     state: &[u32; 6],
     id_next: u64,
     values: &[u64],

@@ -9,12 +9,14 @@ mod gates;
 mod numbers_cases;
 mod say;
 
-fn main() {
-    elements::felts();
-    elements::sums_of_pairs();
-    elements::products_of_pairs();
-    gates::words();
-    numbers_cases::writing();
-    numbers_cases::reading();
-    numbers_cases::reading_below();
+use std::io;
+
+fn main(rt: HostRuntime) -> io::Result<()> {
+    elements::felts(&rt)?;
+    elements::sums_of_pairs(&rt)?;
+    elements::products_of_pairs(&rt)?;
+    gates::words(&rt)?;
+    numbers_cases::writing(&rt)?;
+    numbers_cases::reading(&rt)?;
+    numbers_cases::reading_below(&rt)
 }

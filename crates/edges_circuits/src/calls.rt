@@ -2,6 +2,7 @@
 // with the answer, and every cell of what was lent and of one or two more behind it.
 use crate::{cells, say};
 use eval_circuit::eval_circuit;
+use std::io;
 use trace::OutputAnswer;
 
 #[derive(Drop)]
@@ -49,62 +50,67 @@ pub fn cells_of_listing() -> [u64; 16] {
     ]
 }
 
-fn told(answer: OutputAnswer) {
+fn told(rt: &impl Print, answer: OutputAnswer) -> io::Result<()> {
     match answer {
         OutputAnswer::Zero(header) => {
-            say::accepted();
-            say::number(header.ctx as u64);
-            say::number(header.clk as u64);
-            say::number(header.num_read as u64);
-            say::number(header.num_eval as u64);
-            say::number(header.id_next);
+            say::accepted(rt)?;
+            say::number(rt, header.ctx as u64)?;
+            say::number(rt, header.clk as u64)?;
+            say::number(rt, header.num_read as u64)?;
+            say::number(rt, header.num_eval as u64)?;
+            say::number(rt, header.id_next)
         }
-        OutputAnswer::Refused(refusal, place) => say::refused(refusal, place),
+        OutputAnswer::Refused(refusal, place) => say::refused(rt, refusal, place),
     }
 }
 
 fn evaluate_part(
+    rt: &impl Print,
     call: Call,
     memory: &[u64],
     values: &mut [u64],
     counts: &mut [u32],
     nodes: &mut [u64],
-) {
+) -> io::Result<()> {
     let m = cells::least(call.memory, memory.len());
     let v = cells::least(call.values, values.len());
     let c = cells::least(call.counts, counts.len());
     let n = cells::least(call.nodes, nodes.len());
-    told(eval_circuit(
-        0,
-        7,
-        call.ptr,
-        call.num_vars,
-        call.num_eval,
-        &memory[0..m],
-        &mut values[0..v],
-        &mut counts[0..c],
-        &mut nodes[0..n],
-    ));
+    told(
+        rt,
+        eval_circuit(
+            0,
+            7,
+            call.ptr,
+            call.num_vars,
+            call.num_eval,
+            &memory[0..m],
+            &mut values[0..v],
+            &mut counts[0..c],
+            &mut nodes[0..n],
+        ),
+    )
 }
 
 fn evaluate_and_tell(
+    rt: &impl Print,
     call: Call,
     memory: &[u64],
     values: &mut [u64],
     counts: &mut [u32],
     nodes: &mut [u64],
-) {
-    evaluate_part(call, memory, values, counts, nodes);
-    cells::tell(b" values", values);
-    cells::tell_counts(b" counts", counts);
-    cells::tell(b" nodes", nodes);
-    say::end();
+) -> io::Result<()> {
+    evaluate_part(rt, call, memory, values, counts, nodes)?;
+    cells::tell(rt, b" values", values)?;
+    cells::tell_counts(rt, b" counts", counts)?;
+    cells::tell(rt, b" nodes", nodes)?;
+    say::end(rt)
 }
 
-pub fn evaluate(case: &[u8], call: Call, memory: [u64; 16]) {
-    say::name(b"eval_circuit", case);
+pub fn evaluate(rt: &impl Print, case: &[u8], call: Call, memory: [u64; 16]) -> io::Result<()> {
+    say::name(rt, b"eval_circuit", case)?;
     let mut values = [cells::CANARY; 14];
     let mut counts = [cells::COUNT_CANARY; 7];
     let mut nodes = [cells::CANARY; 52];
-    evaluate_and_tell(call, &memory, &mut values, &mut counts, &mut nodes);
+    evaluate_and_tell(rt, call, &memory, &mut values, &mut counts, &mut nodes)
 }

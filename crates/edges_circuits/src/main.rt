@@ -7,12 +7,14 @@ mod circuits;
 mod regions;
 mod say;
 
-fn main() {
-    regions::sizes();
-    regions::counts();
-    regions::pointers();
-    regions::room();
-    circuits::results();
-    circuits::cells();
-    circuits::gates();
+use std::io;
+
+fn main(rt: HostRuntime) -> io::Result<()> {
+    regions::sizes(&rt)?;
+    regions::counts(&rt)?;
+    regions::pointers(&rt)?;
+    regions::room(&rt)?;
+    circuits::results(&rt)?;
+    circuits::cells(&rt)?;
+    circuits::gates(&rt)
 }

@@ -1,32 +1,32 @@
 // What is written: a line for each case, its name first, then its answer.
-use libc::STDOUT_FILENO;
+use std::io;
 
-pub fn bytes(what: &[u8]) {
-    io::write_all(STDOUT_FILENO, what);
+pub fn bytes(rt: &impl Print, what: &[u8]) -> io::Result<()> {
+    rt.write_all(what)
 }
 
-pub fn number(n: u64) {
-    bytes(b" ");
-    io::print_decimal(STDOUT_FILENO, n);
+pub fn number(rt: &impl Print, n: u64) -> io::Result<()> {
+    bytes(rt, b" ")?;
+    rt.print(n)
 }
 
-pub fn name(entry_point: &[u8], case: &[u8]) {
-    bytes(entry_point);
-    bytes(b": ");
-    bytes(case);
-    bytes(b" =");
+pub fn name(rt: &impl Print, entry_point: &[u8], case: &[u8]) -> io::Result<()> {
+    bytes(rt, entry_point)?;
+    bytes(rt, b": ")?;
+    bytes(rt, case)?;
+    bytes(rt, b" =")
 }
 
-pub fn accepted() {
-    bytes(b" accept");
+pub fn accepted(rt: &impl Print) -> io::Result<()> {
+    bytes(rt, b" accept")
 }
 
-pub fn refused(refusal: u32, place: u64) {
-    bytes(b" refuse");
-    number(refusal as u64);
-    number(place);
+pub fn refused(rt: &impl Print, refusal: u32, place: u64) -> io::Result<()> {
+    bytes(rt, b" refuse")?;
+    number(rt, refusal as u64)?;
+    number(rt, place)
 }
 
-pub fn end() {
-    bytes(b"\n");
+pub fn end(rt: &impl Print) -> io::Result<()> {
+    bytes(rt, b"\n")
 }

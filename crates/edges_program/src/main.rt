@@ -8,10 +8,12 @@ mod inputs;
 mod patch;
 mod say;
 
-fn main() {
-    inputs::listing();
-    inputs::numbers();
-    inputs::heads();
-    inputs::sizes();
-    inputs::circuits();
+use std::io;
+
+fn main(rt: HostRuntime) -> io::Result<()> {
+    inputs::listing(&rt)?;
+    inputs::numbers(&rt)?;
+    inputs::heads(&rt)?;
+    inputs::sizes(&rt)?;
+    inputs::circuits(&rt)
 }

@@ -2,7 +2,7 @@
 ghost use Rattle.std.specs.Prelude.{◌≤◌};
 
 use crate::say;
-use libc::STDOUT_FILENO;
+use std::io;
 
 pub fn least(a: usize, b: usize) -> usize
     ensures { result ≤ b }
@@ -10,15 +10,16 @@ pub fn least(a: usize, b: usize) -> usize
     if a < b { a } else { b }
 }
 
-fn hex(byte: u8) {
-    say::bytes(b" ");
-    io::print_hex(STDOUT_FILENO, byte as u64, 2);
+fn hex(rt: &impl Print, byte: u8) -> io::Result<()> {
+    say::bytes(rt, b" ")?;
+    print!(rt; "{byte:02x}")
 }
 
-pub fn tell(what: &[u8]) {
+pub fn tell(rt: &impl Print, what: &[u8]) -> io::Result<()> {
     let mut i: usize = 0;
     while i < what.len() {
-        hex(what[i]);
+        hex(rt, what[i])?;
         i += 1;
     }
+    Ok(())
 }

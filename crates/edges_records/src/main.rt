@@ -9,13 +9,15 @@ mod say;
 mod small;
 mod writing;
 
-fn main() {
-    writing::records();
-    writing::from_states();
-    reading::prefixes();
-    reading::forms();
-    reading::ranges();
-    reading::counts();
-    reading::room();
-    reading::others();
+use std::io;
+
+fn main(rt: HostRuntime) -> io::Result<()> {
+    writing::records(&rt)?;
+    writing::from_states(&rt)?;
+    reading::prefixes(&rt)?;
+    reading::forms(&rt)?;
+    reading::ranges(&rt)?;
+    reading::counts(&rt)?;
+    reading::room(&rt)?;
+    reading::others(&rt)
 }

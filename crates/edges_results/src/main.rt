@@ -8,9 +8,11 @@ mod say;
 mod states;
 mod tests;
 
-fn main() {
-    results::outputs();
-    results::finished();
-    tests::counts();
-    tests::cells_tested();
+use std::io;
+
+fn main(rt: HostRuntime) -> io::Result<()> {
+    results::outputs(&rt)?;
+    results::finished(&rt)?;
+    tests::counts(&rt)?;
+    tests::cells_tested(&rt)
 }

@@ -1,5 +1,6 @@
 // States of the listing's circuit, and how much is lent.
 use crate::say;
+use std::io;
 use trace::{CircuitEvaluation, RecordHeader};
 
 // Of fourteen value cells, seven counts and fifty-two node cells, one or two more than the listing's
@@ -59,21 +60,21 @@ pub fn header_of(num_read: u32, num_eval: u32, id_next: u64) -> RecordHeader {
     }
 }
 
-pub fn tell(state: CircuitEvaluation) {
-    say::bytes(b" state");
-    say::number(state.ctx as u64);
-    say::number(state.clk as u64);
-    say::number(state.num_read as u64);
-    say::number(state.num_eval as u64);
-    say::number(state.reads_done as u64);
-    say::number(state.evals_done as u64);
-    say::number(state.id_next);
+pub fn tell(rt: &impl Print, state: CircuitEvaluation) -> io::Result<()> {
+    say::bytes(rt, b" state")?;
+    say::number(rt, state.ctx as u64)?;
+    say::number(rt, state.clk as u64)?;
+    say::number(rt, state.num_read as u64)?;
+    say::number(rt, state.num_eval as u64)?;
+    say::number(rt, state.reads_done as u64)?;
+    say::number(rt, state.evals_done as u64)?;
+    say::number(rt, state.id_next)
 }
 
-pub fn tell_header(header: RecordHeader) {
-    say::number(header.ctx as u64);
-    say::number(header.clk as u64);
-    say::number(header.num_read as u64);
-    say::number(header.num_eval as u64);
-    say::number(header.id_next);
+pub fn tell_header(rt: &impl Print, header: RecordHeader) -> io::Result<()> {
+    say::number(rt, header.ctx as u64)?;
+    say::number(rt, header.clk as u64)?;
+    say::number(rt, header.num_read as u64)?;
+    say::number(rt, header.num_eval as u64)?;
+    say::number(rt, header.id_next)
 }

@@ -6,9 +6,11 @@ mod filling;
 mod say;
 mod small;
 
-fn main() {
-    filling::rows_filled();
-    filling::two_of_each();
-    filling::records_refused();
-    filling::from_states();
+use std::io;
+
+fn main(rt: HostRuntime) -> io::Result<()> {
+    filling::rows_filled(&rt)?;
+    filling::two_of_each(&rt)?;
+    filling::records_refused(&rt)?;
+    filling::from_states(&rt)
 }

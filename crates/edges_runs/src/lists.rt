@@ -1,8 +1,8 @@
 // Run lists with clocks 10, 20, 30 and so on, each run with one READ and four EVAL steps. All 32
 // entries have such runs, those past the length too.
 use crate::say;
-use libc::STDOUT_FILENO;
 use runs::{Ace, Entry};
+use std::io;
 use std::num::wrapping_add_u32;
 
 pub fn entry(clk: u32, num_read: u32, num_eval: u32) -> Entry {
@@ -36,26 +36,27 @@ pub fn with_entry(list: Ace, at: usize, entry: Entry) -> Ace {
     changed
 }
 
-fn tell_entry(entry: Entry) {
-    say::number(entry.clk as u64);
-    say::bytes(b" (");
-    io::print_decimal(STDOUT_FILENO, entry.num_read as u64);
-    say::number(entry.num_eval as u64);
-    say::bytes(b")");
+fn tell_entry(rt: &impl Print, entry: Entry) -> io::Result<()> {
+    say::number(rt, entry.clk as u64)?;
+    say::bytes(rt, b" (")?;
+    rt.print(entry.num_read as u64)?;
+    say::number(rt, entry.num_eval as u64)?;
+    say::bytes(rt, b")")
 }
 
 // The length, and each entry in use: its clock and its counts.
-pub fn tell(list: Ace) {
-    say::bytes(b" list");
-    say::number(list.len as u64);
-    say::bytes(b":");
+pub fn tell(rt: &impl Print, list: Ace) -> io::Result<()> {
+    say::bytes(rt, b" list")?;
+    say::number(rt, list.len as u64)?;
+    say::bytes(rt, b":")?;
     let len = list.len as usize;
     let mut i: usize = 0;
     while i < len {
         if 32 <= i {
-            return;
+            return Ok(());
         }
-        tell_entry(list.entries[i]);
+        tell_entry(rt, list.entries[i])?;
         i += 1;
     }
+    Ok(())
 }

@@ -6,11 +6,13 @@ mod asking;
 mod lists;
 mod say;
 
-fn main() {
-    adding::places();
-    adding::full_lists();
-    adding::counts();
-    adding::unsound_lists();
-    asking::totals();
-    asking::rows();
+use std::io;
+
+fn main(rt: HostRuntime) -> io::Result<()> {
+    adding::places(&rt)?;
+    adding::full_lists(&rt)?;
+    adding::counts(&rt)?;
+    adding::unsound_lists(&rt)?;
+    asking::totals(&rt)?;
+    asking::rows(&rt)
 }

@@ -10,16 +10,18 @@ mod reading;
 mod say;
 mod states;
 
-fn main() {
-    opening::counts();
-    opening::room();
-    opening::counts_alone();
-    reading::handed();
-    reading::turns();
-    reading::room();
-    gates::operations();
-    gates::turns();
-    gates::words();
-    gates::gate_numbers();
-    gates::operands();
+use std::io;
+
+fn main(rt: HostRuntime) -> io::Result<()> {
+    opening::counts(&rt)?;
+    opening::room(&rt)?;
+    opening::counts_alone(&rt)?;
+    reading::handed(&rt)?;
+    reading::turns(&rt)?;
+    reading::room(&rt)?;
+    gates::operations(&rt)?;
+    gates::turns(&rt)?;
+    gates::words(&rt)?;
+    gates::gate_numbers(&rt)?;
+    gates::operands(&rt)
 }

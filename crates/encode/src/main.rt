@@ -2,7 +2,9 @@
 // them; or says on standard error which word is none, and writes no byte.
 #![tactic(auto)]
 
-use libc::{STDERR_FILENO, STDIN_FILENO, STDOUT_FILENO};
+mod reads;
+
+use std::io;
 use words::EncodeAnswer;
 
 const MOST_TEXT: usize = 65536;
@@ -10,35 +12,32 @@ const MOST_TEXT: usize = 65536;
 // One byte more than is taken, so that a longer text is seen.
 const ROOM: usize = 65537;
 
-fn complain(what: &[u8]) {
-    io::write_all(STDERR_FILENO, what);
+fn complain(rt: &impl Eprint, what: &str) -> io::Result<()> {
+    rt.eprint(what)
 }
 
-fn complain_of(word: usize, what: &[u8]) {
-    complain(b"word ");
-    io::print_decimal(STDERR_FILENO, word as u64);
-    complain(what);
+fn complain_of(rt: &impl Eprint, word: usize, what: &str) -> io::Result<()> {
+    complain(rt, "word ")?;
+    rt.eprint(word)?;
+    complain(rt, what)
 }
 
-fn encode(text: &[u8], bytes: &mut [u8]) {
+fn encode(rt: &(impl Print + Eprint), text: &[u8], bytes: &mut [u8]) -> io::Result<()> {
     let answer = words::encode(text, bytes);
     match answer {
-        EncodeAnswer::Bytes(n) => {
-            io::write_all(STDOUT_FILENO, &bytes[..n]);
-        }
-        EncodeAnswer::NotANumber(word) => complain_of(word, b" is no decimal number\n"),
-        EncodeAnswer::TooLarge(word) => complain_of(word, b" is 2^64 or more\n"),
-        EncodeAnswer::NoRoom(word) => complain_of(word, b" finds no room\n"),
+        EncodeAnswer::Bytes(n) => rt.write_all(&bytes[..n]),
+        EncodeAnswer::NotANumber(word) => complain_of(rt, word, " is no decimal number\n"),
+        EncodeAnswer::TooLarge(word) => complain_of(rt, word, " is 2^64 or more\n"),
+        EncodeAnswer::NoRoom(word) => complain_of(rt, word, " finds no room\n"),
     }
 }
 
-fn main() {
+fn main(rt: HostRuntime) -> io::Result<()> {
     let mut text = [0u8; ROOM];
-    let n = io::read_full(STDIN_FILENO, &mut text);
+    let n = reads::read_full(&mut rt.stdin(), &mut text)?;
     if MOST_TEXT < n {
-        complain(b"the words take more than 65536 bytes\n");
-        return;
+        return complain(&rt, "the words take more than 65536 bytes\n");
     }
     let mut bytes = [0u8; MOST_TEXT];
-    encode(&text[..n], &mut bytes);
+    encode(&rt, &text[..n], &mut bytes)
 }

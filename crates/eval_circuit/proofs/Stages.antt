@@ -11,7 +11,7 @@ use lib.Seq.{sets}
 use borrow.Author.Tests.{le-leb}
 use Rattle.field.specs.Told.{accepted}
 use Rattle.field.specs.Field.{p, first_over}
-use Rattle.field.specs.Pair.{Pair, pair, cells}
+use Rattle.field.specs.Pair.{Pair, pair}
 use Rattle.field.proofs.Over.{over_all, of_elements_lem}
 use Rattle.trace.specs.declared.CircuitEvaluation.{CircuitEvaluation}
 use Rattle.trace.specs.Counts.{wires, node_cells}

@@ -1,7 +1,6 @@
 pub mod Ring
 pub mod Cases
 pub mod Tellings
-pub mod Parts
 pub mod Halves
 pub mod Remainders
 pub mod Division

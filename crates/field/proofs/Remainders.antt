@@ -1,6 +1,6 @@
 -- Remainders under sums and products.
 -- Assumes nothing.
-use Rattle.std.proofs.Common.{◌≡◌, ℕ, ◌+◌, ◌*◌, ◌/◌, ◌%◌, ◌<◌, sym, ap, ◌∙◌, mul_assoc, mul_comm, div-add-mod', mul-add, arith}
+use Rattle.std.proofs.Common.{◌≡◌, ℕ, ◌+◌, ◌*◌, ◌/◌, ◌%◌, ◌<◌, sym, ap, ap₂, ◌∙◌, mul_assoc, mul_comm, div-add-mod', mul-add, arith}
 use native.Mathlib.Nat.{mul-add-mod_self_right, mod-add-mod, add-mod}
 use Rattle.field.specs.Field.{p}
 
@@ -30,3 +30,9 @@ sum_with x a y b u r e eu =
     ∙ ap (λ (i : ℕ). (x % p + i) % p) (mod_mul_mod (a * y) b p)
     ∙ sym (add-mod x (a * y * b) p)
     ∙ ap (λ (i : ℕ). (x + i) % p) (mul_assoc a y b)
+
+pub sum_of : (x y u v r : ℕ) → r ≡ (u + v) % p → u ≡ x % p → v ≡ y % p → r ≡ (x + y) % p
+sum_of x y u v r e eu ev = e ∙ ap₂ (λ (i j : ℕ). (i + j) % p) eu ev ∙ sym (add-mod x y p)
+
+pub product_of : (a x u r : ℕ) → r ≡ a * u % p → u ≡ x % p → r ≡ a * x % p
+product_of a x u r e eu = e ∙ ap (λ (i : ℕ). a * i % p) eu ∙ mul_mod_mod a x p

@@ -12,35 +12,7 @@ use Rattle.trace.specs.Outcome.{Lent, lent}
 use Rattle.trace.specs.Record.{elements, in_field, of_record}
 use Rattle.record.specs.Bytes.{bytes_of_all, record_bytes, of_bytes, write_into_answer}
 use Rattle.record.specs.Numbers.{number_at, next_at, after, numbers_answer}
-use Rattle.record.specs.Reading.{
-  ctx_in,
-  clk_in,
-  id_next_in,
-  wires_in,
-  wires_at,
-  declared_at,
-  declared_in,
-  read_list_at,
-  reads_in,
-  reads_at,
-  eval_list_at,
-  evals_in,
-  evals_at,
-  end_at,
-  head_answer,
-  wire_answer,
-  wires_answer,
-  wire_list_answer,
-  declared_answer,
-  nodes_answer,
-  end_answer,
-  fields_answer,
-  read_from_answer,
-  values_from,
-  counts_from,
-  record_in,
-  read_buffers,
-}
+use Rattle.record.specs.Reading.{ctx_in, clk_in, id_next_in, wires_in, wires_at, declared_at, declared_in, read_list_at, reads_in, reads_at, eval_list_at, evals_in, evals_at, end_at, head_answer, wire_answer, wires_answer, wire_list_answer, declared_answer, nodes_answer, end_answer, fields_answer, read_from_answer}
 
 abbrev pub header : RecordHeader
 header = record { ctx = 0; clk = 7; num_read = 1; num_eval = 4; id_next = p - 1 }

@@ -3,43 +3,45 @@ use crate::buffers::{Bytes, Counts, Memory, Nodes, Rows, Values};
 use crate::held::{Held, Lent};
 use crate::input::{ARGUMENTS, Instruction};
 use crate::{cells, circuits, codes, elements, groups, held, lists, records, steps};
+use std::io;
 use trace::CircuitEvaluation;
 
 // One that needs no buffer.
-fn alone(code: u64, args: [u64; ARGUMENTS], before: Held) -> Held {
+fn alone(rt: &impl Print, code: u64, args: [u64; ARGUMENTS], before: Held) -> io::Result<Held> {
     let list = before.list;
     match code {
-        codes::LEND => held::with_lent(before, args[0] as usize, args[1] as usize),
-        codes::STATE => held::with_state(before, held::state_of(args)),
-        codes::ENTRY | codes::LENGTH | codes::ADD => held::with_list(
+        codes::LEND => Ok(held::with_lent(before, args[0] as usize, args[1] as usize)),
+        codes::STATE => Ok(held::with_state(before, held::state_of(args))),
+        codes::ENTRY | codes::LENGTH | codes::ADD => Ok(held::with_list(
             before,
-            lists::changed(code, args, list),
-        ),
+            lists::changed(rt, code, args, list)?,
+        )),
         codes::FELT => {
-            elements::felt(args);
-            before
+            elements::felt(rt, args)?;
+            Ok(before)
         }
         codes::QUAD => {
-            elements::quad(args);
-            before
+            elements::quad(rt, args)?;
+            Ok(before)
         }
         codes::DECODE => {
-            elements::decode(args);
-            before
+            elements::decode(rt, args)?;
+            Ok(before)
         }
         codes::WIDTH => {
-            groups::width(args);
-            before
+            groups::width(rt, args)?;
+            Ok(before)
         }
         _ => {
-            lists::ask(code, args, list);
-            before
+            lists::ask(rt, code, args, list)?;
+            Ok(before)
         }
     }
 }
 
 // One that reads or writes bytes.
 fn over_bytes(
+    rt: &impl Print,
     code: u64,
     args: [u64; ARGUMENTS],
     lent: Lent,
@@ -48,18 +50,19 @@ fn over_bytes(
     counts: &mut Counts,
     nodes: &mut Nodes,
     bytes: &mut Bytes,
-) {
+) -> io::Result<()> {
     match code {
         codes::WRITE | codes::WRITE_STATE => {
-            records::write(code, args, lent, state, values, counts, nodes, bytes);
+            records::write(rt, code, args, lent, state, values, counts, nodes, bytes)
         }
-        codes::READ_RECORD => records::read(lent, values, counts, nodes, bytes),
-        _ => groups::answer(code, args, lent, bytes),
+        codes::READ_RECORD => records::read(rt, lent, values, counts, nodes, bytes),
+        _ => groups::answer(rt, code, args, lent, bytes),
     }
 }
 
 // One that needs a buffer; the step state after it is given back.
 fn over_buffers(
+    rt: &impl Print,
     code: u64,
     count: u64,
     args: [u64; ARGUMENTS],
@@ -71,26 +74,27 @@ fn over_buffers(
     nodes: &mut Nodes,
     rows: &mut Rows,
     bytes: &mut Bytes,
-) -> CircuitEvaluation {
+) -> io::Result<CircuitEvaluation> {
     match code {
         codes::OPEN | codes::READ | codes::EVAL | codes::OUTPUT => {
-            return steps::answer(code, args, lent, state, values, counts, nodes);
+            return steps::answer(rt, code, args, lent, state, values, counts, nodes);
         }
-        codes::EVALUATE => circuits::evaluate(args, lent, memory, values, counts, nodes),
+        codes::EVALUATE => circuits::evaluate(rt, args, lent, memory, values, counts, nodes)?,
         codes::FILL | codes::FILL_STATE => {
-            circuits::fill(code, args, lent, state, values, counts, nodes, rows);
+            circuits::fill(rt, code, args, lent, state, values, counts, nodes, rows)?;
         }
         codes::SET | codes::RISE | codes::SHOW | codes::SUM => {
             cells::answer(
-                code, count, args, memory, values, counts, nodes, rows, bytes,
-            );
+                rt, code, count, args, memory, values, counts, nodes, rows, bytes,
+            )?;
         }
-        _ => over_bytes(code, args, lent, state, values, counts, nodes, bytes),
+        _ => over_bytes(rt, code, args, lent, state, values, counts, nodes, bytes)?,
     }
-    state
+    Ok(state)
 }
 
 pub fn answer(
+    rt: &impl Print,
     asked: Instruction,
     before: Held,
     memory: &mut Memory,
@@ -99,17 +103,18 @@ pub fn answer(
     nodes: &mut Nodes,
     rows: &mut Rows,
     bytes: &mut Bytes,
-) -> Held {
+) -> io::Result<Held> {
     let code = asked.code;
     let args = asked.args;
     if !codes::needs_buffer(code) {
-        return alone(code, args, before);
+        return alone(rt, code, args, before);
     }
     let lent = before.lent;
     let state = before.state;
-    held::with_state(
+    Ok(held::with_state(
         before,
         over_buffers(
+            rt,
             code,
             asked.count,
             args,
@@ -121,6 +126,6 @@ pub fn answer(
             nodes,
             rows,
             bytes,
-        ),
-    )
+        )?,
+    ))
 }

@@ -3,6 +3,7 @@ use crate::buffers::{Bytes, Counts, Memory, Nodes, Rows, Values, cells_there, ge
 use crate::codes::{RISE, SET, SHOW};
 use crate::input::ARGUMENTS;
 use crate::say;
+use std::io;
 
 // How many cells one instruction sets at most.
 const SET_AT_ONCE: usize = ARGUMENTS - 2;
@@ -115,6 +116,7 @@ fn rise(
 }
 
 fn show(
+    rt: &impl Print,
     args: [u64; ARGUMENTS],
     memory: &Memory,
     values: &Values,
@@ -122,7 +124,7 @@ fn show(
     nodes: &Nodes,
     rows: &Rows,
     bytes: &Bytes,
-) {
+) -> io::Result<()> {
     let buffer = args[0] as usize;
     let at = args[1] as usize;
     let cells = cells_there(buffer, at, args[2] as usize);
@@ -131,10 +133,10 @@ fn show(
     let mut k: usize = 0;
     while k < cells {
         let cell = get(buffer, at + k, memory, values, counts, nodes, rows, bytes);
-        used = say::number(cell, &mut pending, used);
+        used = say::number(rt, cell, &mut pending, used)?;
         k += 1;
     }
-    say::flush(&pending, used);
+    say::flush(rt, &pending, used)
 }
 
 fn add_half(sum: u64, half: u64) -> u64 {
@@ -146,6 +148,7 @@ fn add_cell(sum: u64, cell: u64) -> u64 {
 }
 
 fn tell_sum(
+    rt: &impl Print,
     args: [u64; ARGUMENTS],
     memory: &Memory,
     values: &Values,
@@ -153,7 +156,7 @@ fn tell_sum(
     nodes: &Nodes,
     rows: &Rows,
     bytes: &Bytes,
-) {
+) -> io::Result<()> {
     let buffer = args[0] as usize;
     let at = args[1] as usize;
     let cells = cells_there(buffer, at, args[2] as usize);
@@ -166,10 +169,11 @@ fn tell_sum(
         );
         k += 1;
     }
-    say::numbers(&[sum]);
+    say::numbers(rt, &[sum])
 }
 
 pub fn answer(
+    rt: &impl Print,
     code: u64,
     count: u64,
     args: [u64; ARGUMENTS],
@@ -179,11 +183,17 @@ pub fn answer(
     nodes: &mut Nodes,
     rows: &mut Rows,
     bytes: &mut Bytes,
-) {
+) -> io::Result<()> {
     match code {
-        SET => set_all(count, args, memory, values, counts, nodes, rows, bytes),
-        RISE => rise(args, memory, values, counts, nodes, rows, bytes),
-        SHOW => show(args, memory, values, counts, nodes, rows, bytes),
-        _ => tell_sum(args, memory, values, counts, nodes, rows, bytes),
+        SET => {
+            set_all(count, args, memory, values, counts, nodes, rows, bytes);
+            Ok(())
+        }
+        RISE => {
+            rise(args, memory, values, counts, nodes, rows, bytes);
+            Ok(())
+        }
+        SHOW => show(rt, args, memory, values, counts, nodes, rows, bytes),
+        _ => tell_sum(rt, args, memory, values, counts, nodes, rows, bytes),
     }
 }

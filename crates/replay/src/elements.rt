@@ -5,6 +5,7 @@ use field::felt::FeltAnswer;
 use field::quad::QuadAnswer;
 use field::{felt, quad};
 use instruction::{DecodeAnswer, Op, decode_instruction};
+use std::io;
 
 const ADD: u64 = 0;
 
@@ -18,11 +19,11 @@ fn felt_answer(op: u64, a: u64, b: u64) -> FeltAnswer {
     }
 }
 
-pub fn felt(args: [u64; ARGUMENTS]) {
+pub fn felt(rt: &impl Print, args: [u64; ARGUMENTS]) -> io::Result<()> {
     let answer = felt_answer(args[0], args[1], args[2]);
     match answer {
-        FeltAnswer::Value(v) => say::one(v),
-        FeltAnswer::Refused(refusal, place) => say::refused(refusal, place),
+        FeltAnswer::Value(v) => say::one(rt, v),
+        FeltAnswer::Refused(refusal, place) => say::refused(rt, refusal, place),
     }
 }
 
@@ -34,11 +35,11 @@ fn quad_answer(op: u64, a: [u64; 2], b: [u64; 2]) -> QuadAnswer {
     }
 }
 
-pub fn quad(args: [u64; ARGUMENTS]) {
+pub fn quad(rt: &impl Print, args: [u64; ARGUMENTS]) -> io::Result<()> {
     let answer = quad_answer(args[0], [args[1], args[2]], [args[3], args[4]]);
     match answer {
-        QuadAnswer::Value(v0, v1) => say::two(v0, v1),
-        QuadAnswer::Refused(refusal, place) => say::refused(refusal, place),
+        QuadAnswer::Value(v0, v1) => say::two(rt, v0, v1),
+        QuadAnswer::Refused(refusal, place) => say::refused(rt, refusal, place),
     }
 }
 
@@ -50,12 +51,12 @@ fn number_of(op: Op) -> u64 {
     }
 }
 
-pub fn decode(args: [u64; ARGUMENTS]) {
+pub fn decode(rt: &impl Print, args: [u64; ARGUMENTS]) -> io::Result<()> {
     let answer = decode_instruction(args[0]);
     match answer {
         DecodeAnswer::Instruction(left, right, op) => {
-            say::numbers(&[0, left as u64, right as u64, number_of(op)]);
+            say::numbers(rt, &[0, left as u64, right as u64, number_of(op)])
         }
-        DecodeAnswer::Refused(refusal, place) => say::refused(refusal, place),
+        DecodeAnswer::Refused(refusal, place) => say::refused(rt, refusal, place),
     }
 }

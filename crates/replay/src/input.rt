@@ -1,7 +1,9 @@
 // Standard input, an instruction at a time.
 use crate::buffers::least;
-use libc::STDIN_FILENO;
+use crate::reads::read_full;
 use numbers::ReadAnswer;
+use std::io;
+use std::io::Read;
 
 pub const INPUT_BYTES: usize = 65536;
 
@@ -14,14 +16,14 @@ pub const ARGUMENTS: usize = 16;
 const LONGEST: usize = 180;
 
 // The bytes of the input buffer that are read and not yet used; whether the input has ended.
-#[derive(Drop)]
+#[derive(Clone, Copy)]
 pub struct Unread {
     pub start: usize,
     pub end: usize,
     pub is_last: bool,
 }
 
-#[derive(Drop)]
+#[derive(Clone, Copy)]
 pub struct Instruction {
     pub code: u64,
     pub count: u64,
@@ -54,26 +56,26 @@ fn move_up(s: &mut [u8], start: usize, end: usize) -> usize {
     to
 }
 
-fn read_on(s: &mut [u8], unread: Unread) -> Unread {
+fn read_on(reader: &mut impl Read, s: &mut [u8], unread: Unread) -> io::Result<Unread> {
     let kept = least(move_up(s, unread.start, unread.end), s.len());
     let room = s.len() - kept;
-    let got = io::read_full(STDIN_FILENO, &mut s[kept..]);
-    Unread {
+    let got = read_full(reader, &mut s[kept..])?;
+    Ok(Unread {
         start: 0,
         end: kept + got,
         is_last: got < room,
-    }
+    })
 }
 
 // With the whole of the next instruction, if the input has it.
-pub fn filled(input: &mut Input, unread: Unread) -> Unread {
+pub fn filled(reader: &mut impl Read, input: &mut Input, unread: Unread) -> io::Result<Unread> {
     if unread.is_last {
-        return unread;
+        return Ok(unread);
     }
     if unread.start <= unread.end && LONGEST <= unread.end - unread.start {
-        return unread;
+        return Ok(unread);
     }
-    read_on(input, unread)
+    read_on(reader, input, unread)
 }
 
 // With all before `next` used.

@@ -4,6 +4,7 @@ use crate::codes::{ENTRY, LENGTH, TRACE_LEN};
 use crate::input::ARGUMENTS;
 use crate::say;
 use runs::{Ace, AddAnswer, Entry, RowsAnswer};
+use std::io;
 
 const ENTRIES: usize = 32;
 
@@ -36,55 +37,59 @@ fn with_len(list: Ace, len: u32) -> Ace {
     changed
 }
 
-fn say_entry(entry: Entry) {
-    say::numbers(&[
-        entry.clk as u64,
-        entry.num_read as u64,
-        entry.num_eval as u64,
-    ]);
+fn say_entry(rt: &impl Print, entry: Entry) -> io::Result<()> {
+    say::numbers(
+        rt,
+        &[
+            entry.clk as u64,
+            entry.num_read as u64,
+            entry.num_eval as u64,
+        ],
+    )
 }
 
 // Its length and all entries.
-fn say_list(list: Ace) {
-    say::numbers(&[list.len as u64]);
+fn say_list(rt: &impl Print, list: Ace) -> io::Result<()> {
+    say::numbers(rt, &[list.len as u64])?;
     let mut i: usize = 0;
     while i < ENTRIES {
-        say_entry(list.entries[i]);
+        say_entry(rt, list.entries[i])?;
         i += 1;
     }
+    Ok(())
 }
 
-fn add(list: Ace, entry: Entry) -> Ace {
+fn add(rt: &impl Print, list: Ace, entry: Entry) -> io::Result<Ace> {
     let outcome = list.add_circuit_evaluation(entry);
     let answer = outcome.answer;
     match answer {
-        AddAnswer::Added => say::accepted(),
-        AddAnswer::Refused(refusal, place) => say::refused(refusal, place),
+        AddAnswer::Added => say::accepted(rt)?,
+        AddAnswer::Refused(refusal, place) => say::refused(rt, refusal, place)?,
     }
     let after = outcome.list;
-    say_list(after);
-    after
+    say_list(rt, after)?;
+    Ok(after)
 }
 
 // The list after an instruction that may change it.
-pub fn changed(code: u64, args: [u64; ARGUMENTS], list: Ace) -> Ace {
+pub fn changed(rt: &impl Print, code: u64, args: [u64; ARGUMENTS], list: Ace) -> io::Result<Ace> {
     match code {
-        ENTRY => with_entry(list, args[0] as usize, entry_of(args[1], args[2], args[3])),
-        LENGTH => with_len(list, word(args[0])),
-        _ => add(list, entry_of(args[0], args[1], args[2])),
+        ENTRY => Ok(with_entry(list, args[0] as usize, entry_of(args[1], args[2], args[3]))),
+        LENGTH => Ok(with_len(list, word(args[0]))),
+        _ => add(rt, list, entry_of(args[0], args[1], args[2])),
     }
 }
 
-fn told(answer: RowsAnswer) {
+fn told(rt: &impl Print, answer: RowsAnswer) -> io::Result<()> {
     match answer {
-        RowsAnswer::Rows(rows) => say::one(rows),
-        RowsAnswer::Refused(refusal, place) => say::refused(refusal, place),
+        RowsAnswer::Rows(rows) => say::one(rt, rows),
+        RowsAnswer::Refused(refusal, place) => say::refused(rt, refusal, place),
     }
 }
 
-pub fn ask(code: u64, args: [u64; ARGUMENTS], list: Ace) {
+pub fn ask(rt: &impl Print, code: u64, args: [u64; ARGUMENTS], list: Ace) -> io::Result<()> {
     match code {
-        TRACE_LEN => told(list.trace_len()),
-        _ => told(list.first_row(word(args[0]))),
+        TRACE_LEN => told(rt, list.trace_len()),
+        _ => told(rt, list.first_row(word(args[0]))),
     }
 }

@@ -11,6 +11,7 @@ mod groups;
 mod held;
 mod input;
 mod lists;
+mod reads;
 mod records;
 mod say;
 mod steps;
@@ -21,6 +22,8 @@ use crate::buffers::{
 };
 use crate::held::Held;
 use crate::input::{INPUT_BYTES, Input, Instruction, Unread};
+use std::io;
+use std::io::Read;
 
 // No input has so many instructions; without a bound nothing would say that the program ends.
 const INSTRUCTIONS: u64 = 0x4000_0000_0000_0000;
@@ -39,20 +42,22 @@ fn over(progress: Progress) -> Progress {
 }
 
 // Whether the program ends there. That there is no such instruction is said.
-fn ends(asked: Instruction) -> bool {
+fn ends(rt: &impl Print, asked: Instruction) -> io::Result<bool> {
     if !asked.is_whole {
-        return true;
+        return Ok(true);
     }
     let args = asked.args;
     if codes::is_known(asked.code, asked.count, args) {
-        return false;
+        return Ok(false);
     }
-    say::unknown();
-    true
+    say::unknown(rt)?;
+    Ok(true)
 }
 
 // After the next instruction.
 fn next(
+    rt: &impl Print,
+    reader: &mut impl Read,
     progress: Progress,
     input: &mut Input,
     memory: &mut Memory,
@@ -61,15 +66,16 @@ fn next(
     nodes: &mut Nodes,
     rows: &mut Rows,
     bytes: &mut Bytes,
-) -> Progress {
-    let unread = input::filled(input, progress.unread);
+) -> io::Result<Progress> {
+    let unread = input::filled(reader, input, progress.unread)?;
     let asked = input::next(input, unread);
-    if ends(asked) {
-        return over(progress);
+    if ends(rt, asked)? {
+        return Ok(over(progress));
     }
-    Progress {
+    Ok(Progress {
         unread: input::used(unread, asked.next),
         held: calls::answer(
+            rt,
             asked,
             progress.held,
             memory,
@@ -78,12 +84,14 @@ fn next(
             nodes,
             rows,
             bytes,
-        ),
+        )?,
         is_over: false,
-    }
+    })
 }
 
 fn replay(
+    rt: &impl Print,
+    reader: &mut impl Read,
     input: &mut Input,
     memory: &mut Memory,
     values: &mut Values,
@@ -91,7 +99,7 @@ fn replay(
     nodes: &mut Nodes,
     rows: &mut Rows,
     bytes: &mut Bytes,
-) {
+) -> io::Result<()> {
     let mut progress = Progress {
         unread: input::nothing(),
         held: held::nothing(),
@@ -100,14 +108,17 @@ fn replay(
     let mut done: u64 = 0;
     while done < INSTRUCTIONS {
         done += 1;
-        progress = next(progress, input, memory, values, counts, nodes, rows, bytes);
+        progress = next(
+            rt, reader, progress, input, memory, values, counts, nodes, rows, bytes,
+        )?;
         if progress.is_over {
-            return;
+            return Ok(());
         }
     }
+    Ok(())
 }
 
-fn main() {
+fn main(rt: HostRuntime) -> io::Result<()> {
     let mut input = [0u8; INPUT_BYTES];
     let mut memory = [0u64; MEMORY_CELLS];
     let mut values = [0u64; VALUE_CELLS];
@@ -115,7 +126,10 @@ fn main() {
     let mut nodes = [0u64; NODE_CELLS];
     let mut rows = [0u64; ROW_CELLS];
     let mut bytes = [0u8; BYTE_CELLS];
+    let mut stdin = rt.stdin();
     replay(
+        &rt,
+        &mut stdin,
         &mut input,
         &mut memory,
         &mut values,
@@ -123,5 +137,5 @@ fn main() {
         &mut nodes,
         &mut rows,
         &mut bytes,
-    );
+    )
 }

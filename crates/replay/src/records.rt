@@ -5,9 +5,11 @@ use crate::codes::WRITE;
 use crate::held::Lent;
 use crate::input::ARGUMENTS;
 use crate::{groups, say};
+use std::io;
 use trace::{CircuitEvaluation, HeaderAnswer};
 
 fn write_lent(
+    rt: &impl Print,
     code: u64,
     args: [u64; ARGUMENTS],
     state: CircuitEvaluation,
@@ -15,16 +17,23 @@ fn write_lent(
     counts: &[u32],
     nodes: &[u64],
     bytes: &mut [u8],
-) {
+) -> io::Result<()> {
     match code {
         WRITE => {
-            groups::written(record::write_into(header_of(args), values, counts, nodes, bytes));
+            groups::written(
+                rt,
+                record::write_into(header_of(args), values, counts, nodes, bytes),
+            )
         }
-        _ => groups::written(record::write_state_into(state, values, counts, nodes, bytes)),
+        _ => groups::written(
+            rt,
+            record::write_state_into(state, values, counts, nodes, bytes),
+        ),
     }
 }
 
 pub fn write(
+    rt: &impl Print,
     code: u64,
     args: [u64; ARGUMENTS],
     lent: Lent,
@@ -33,12 +42,13 @@ pub fn write(
     counts: &[u32],
     nodes: &[u64],
     bytes: &mut [u8],
-) {
+) -> io::Result<()> {
     let value_cells = least(lent[VALUES], values.len());
     let count_cells = least(lent[COUNTS], counts.len());
     let node_cells = least(lent[NODES], nodes.len());
     let room = least(lent[BYTES], bytes.len());
     write_lent(
+        rt,
         code,
         args,
         state,
@@ -46,25 +56,35 @@ pub fn write(
         &counts[0..count_cells],
         &nodes[0..node_cells],
         &mut bytes[0..room],
-    );
+    )
 }
 
-fn told(answer: HeaderAnswer) {
+fn told(rt: &impl Print, answer: HeaderAnswer) -> io::Result<()> {
     match answer {
-        HeaderAnswer::Header(header) => say::header(header),
-        HeaderAnswer::Refused(refusal, place) => say::refused(refusal, place),
+        HeaderAnswer::Header(header) => say::header(rt, header),
+        HeaderAnswer::Refused(refusal, place) => say::refused(rt, refusal, place),
     }
 }
 
-pub fn read(lent: Lent, values: &mut [u64], counts: &mut [u32], nodes: &mut [u64], bytes: &[u8]) {
+pub fn read(
+    rt: &impl Print,
+    lent: Lent,
+    values: &mut [u64],
+    counts: &mut [u32],
+    nodes: &mut [u64],
+    bytes: &[u8],
+) -> io::Result<()> {
     let value_cells = least(lent[VALUES], values.len());
     let count_cells = least(lent[COUNTS], counts.len());
     let node_cells = least(lent[NODES], nodes.len());
     let end = least(lent[BYTES], bytes.len());
-    told(record::read_from(
-        &bytes[0..end],
-        &mut values[0..value_cells],
-        &mut counts[0..count_cells],
-        &mut nodes[0..node_cells],
-    ));
+    told(
+        rt,
+        record::read_from(
+            &bytes[0..end],
+            &mut values[0..value_cells],
+            &mut counts[0..count_cells],
+            &mut nodes[0..node_cells],
+        ),
+    )
 }

@@ -4,78 +4,82 @@ use crate::codes::{EVAL, OPEN, READ};
 use crate::held::{Lent, state_of};
 use crate::input::ARGUMENTS;
 use crate::say;
+use std::io;
 use trace::{CircuitEvaluation, OpenAnswer, OutputAnswer, StepAnswer};
 
 // A refused opening gives no state, and the one before stays.
 fn open(
+    rt: &impl Print,
     args: [u64; ARGUMENTS],
     state: CircuitEvaluation,
     values: &[u64],
     counts: &[u32],
     nodes: &[u64],
-) -> CircuitEvaluation {
+) -> io::Result<CircuitEvaluation> {
     let s = state_of(args);
     let answer = CircuitEvaluation::new(
         s.ctx, s.clk, s.num_read, s.num_eval, values, counts, nodes,
     );
     match answer {
         OpenAnswer::Opened(opened) => {
-            say::accepted();
-            say::state(opened);
-            opened
+            say::accepted(rt)?;
+            say::state(rt, opened)?;
+            Ok(opened)
         }
         OpenAnswer::Refused(refusal, place) => {
-            say::refused(refusal, place);
-            state
+            say::refused(rt, refusal, place)?;
+            Ok(state)
         }
     }
 }
 
-fn stepped(answer: StepAnswer) -> CircuitEvaluation {
+fn stepped(rt: &impl Print, answer: StepAnswer) -> io::Result<CircuitEvaluation> {
     match answer {
         StepAnswer::Done(state) => {
-            say::accepted();
-            say::state(state);
-            state
+            say::accepted(rt)?;
+            say::state(rt, state)?;
+            Ok(state)
         }
         StepAnswer::Refused(state, refusal, place) => {
-            say::refused(refusal, place);
-            say::state(state);
-            state
+            say::refused(rt, refusal, place)?;
+            say::state(rt, state)?;
+            Ok(state)
         }
     }
 }
 
-pub fn told(answer: OutputAnswer) {
+pub fn told(rt: &impl Print, answer: OutputAnswer) -> io::Result<()> {
     match answer {
-        OutputAnswer::Zero(header) => say::header(header),
-        OutputAnswer::Refused(refusal, place) => say::refused(refusal, place),
+        OutputAnswer::Zero(header) => say::header(rt, header),
+        OutputAnswer::Refused(refusal, place) => say::refused(rt, refusal, place),
     }
 }
 
 fn call(
+    rt: &impl Print,
     code: u64,
     args: [u64; ARGUMENTS],
     state: CircuitEvaluation,
     values: &mut [u64],
     counts: &mut [u32],
     nodes: &mut [u64],
-) -> CircuitEvaluation {
+) -> io::Result<CircuitEvaluation> {
     match code {
-        OPEN => open(args, state, values, counts, nodes),
+        OPEN => open(rt, args, state, values, counts, nodes),
         READ => {
             let word = [[args[1], args[2]], [args[3], args[4]]];
-            stepped(state.do_read(args[0], word, values, counts, nodes))
+            stepped(rt, state.do_read(args[0], word, values, counts, nodes))
         }
-        EVAL => stepped(state.do_eval(args[0], args[1], values, counts, nodes)),
+        EVAL => stepped(rt, state.do_eval(args[0], args[1], values, counts, nodes)),
         _ => {
-            told(state.output_value(values, counts, nodes));
-            state
+            told(rt, state.output_value(values, counts, nodes))?;
+            Ok(state)
         }
     }
 }
 
 pub fn answer(
+    rt: &impl Print,
     code: u64,
     args: [u64; ARGUMENTS],
     lent: Lent,
@@ -83,11 +87,12 @@ pub fn answer(
     values: &mut [u64],
     counts: &mut [u32],
     nodes: &mut [u64],
-) -> CircuitEvaluation {
+) -> io::Result<CircuitEvaluation> {
     let value_cells = least(lent[VALUES], values.len());
     let count_cells = least(lent[COUNTS], counts.len());
     let node_cells = least(lent[NODES], nodes.len());
     call(
+        rt,
         code,
         args,
         state,

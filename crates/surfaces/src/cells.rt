@@ -2,7 +2,7 @@
 ghost use Rattle.std.specs.Prelude.{◌≤◌};
 
 use crate::say;
-use libc::STDOUT_FILENO;
+use std::io;
 use std::num::wrapping_add_u64;
 
 // What cells hold before a call, where nothing else is said.
@@ -22,54 +22,54 @@ pub fn least(a: usize, b: usize) -> usize
     if a < b { a } else { b }
 }
 
-fn tell_run(run: Run) {
+fn tell_run(rt: &impl Print, run: Run) -> io::Result<()> {
     if run.times == 0 {
-        return;
+        return Ok(());
     }
-    say::number(run.cell);
+    say::number(rt, run.cell)?;
     if run.times == 1 {
-        return;
+        return Ok(());
     }
-    say::bytes(b"*");
-    io::print_decimal(STDOUT_FILENO, run.times);
+    say::bytes(rt, b"*")?;
+    rt.print(run.times)
 }
 
-fn with_cell(run: Run, cell: u64) -> Run {
+fn with_cell(rt: &impl Print, run: Run, cell: u64) -> io::Result<Run> {
     if run.cell == cell {
-        return Run {
+        return Ok(Run {
             cell: cell,
             times: wrapping_add_u64(run.times, 1),
-        };
+        });
     }
-    tell_run(run);
-    Run {
+    tell_run(rt, run)?;
+    Ok(Run {
         cell: cell,
         times: 1,
-    }
+    })
 }
 
-fn with_count(run: Run, count: u32) -> Run {
-    with_cell(run, count as u64)
+fn with_count(rt: &impl Print, run: Run, count: u32) -> io::Result<Run> {
+    with_cell(rt, run, count as u64)
 }
 
-pub fn tell(what: &[u8], cells: &[u64]) {
-    say::bytes(what);
+pub fn tell(rt: &impl Print, what: &[u8], cells: &[u64]) -> io::Result<()> {
+    say::bytes(rt, what)?;
     let mut run = Run { cell: 0, times: 0 };
     let mut i: usize = 0;
     while i < cells.len() {
-        run = with_cell(run, cells[i]);
+        run = with_cell(rt, run, cells[i])?;
         i += 1;
     }
-    tell_run(run);
+    tell_run(rt, run)
 }
 
-pub fn tell_counts(what: &[u8], counts: &[u32]) {
-    say::bytes(what);
+pub fn tell_counts(rt: &impl Print, what: &[u8], counts: &[u32]) -> io::Result<()> {
+    say::bytes(rt, what)?;
     let mut run = Run { cell: 0, times: 0 };
     let mut i: usize = 0;
     while i < counts.len() {
-        run = with_count(run, counts[i]);
+        run = with_count(rt, run, counts[i])?;
         i += 1;
     }
-    tell_run(run);
+    tell_run(rt, run)
 }

@@ -1,6 +1,7 @@
 // The calls that are put to both surfaces.
 use crate::calls;
 use crate::calls::Surface;
+use std::io;
 use trace::CircuitEvaluation;
 
 pub const CALLS: usize = 16;
@@ -45,20 +46,40 @@ fn pointer(call: usize) -> u64 {
 
 // The listing is calls 0 to 6.
 pub fn call(
+    rt: &impl Print,
     call: usize,
     surface: Surface,
     state: CircuitEvaluation,
     values: &mut [u64],
     counts: &mut [u32],
     nodes: &mut [u64],
-) -> CircuitEvaluation {
+) -> io::Result<CircuitEvaluation> {
     match call {
-        0 | 8 => calls::new(surface, state, 1, 4, values, counts, nodes),
-        7 => calls::new(surface, state, 1, 0, values, counts, nodes),
-        1 | 11 => calls::do_read(surface, state, 0, [[3, 0], [4, 0]], values, counts, nodes),
-        10 => calls::do_read(surface, state, 0, [[3, 0], [4, P]], values, counts, nodes),
-        6 | 15 => calls::output_value(surface, state, values, counts, nodes),
+        0 | 8 => calls::new(rt, surface, state, 1, 4, values, counts, nodes),
+        7 => calls::new(rt, surface, state, 1, 0, values, counts, nodes),
+        1 | 11 => calls::do_read(
+            rt,
+            surface,
+            state,
+            0,
+            [[3, 0], [4, 0]],
+            values,
+            counts,
+            nodes,
+        ),
+        10 => calls::do_read(
+            rt,
+            surface,
+            state,
+            0,
+            [[3, 0], [4, P]],
+            values,
+            counts,
+            nodes,
+        ),
+        6 | 15 => calls::output_value(rt, surface, state, values, counts, nodes),
         _ => calls::do_eval(
+            rt,
             surface,
             state,
             pointer(call),

@@ -1,5 +1,6 @@
 // Whether both surfaces came to the same.
 use crate::say;
+use std::io;
 use trace::CircuitEvaluation;
 
 pub fn is_same_state(a: CircuitEvaluation, b: CircuitEvaluation) -> bool {
@@ -40,11 +41,11 @@ pub fn is_same_counts(a: &[u32], b: &[u32]) -> bool {
     true
 }
 
-pub fn tell(what: &[u8], is_same: bool) {
-    say::bytes(what);
+pub fn tell(rt: &impl Print, what: &[u8], is_same: bool) -> io::Result<()> {
+    say::bytes(rt, what)?;
     if is_same {
-        say::bytes(b" same\n");
+        say::bytes(rt, b" same\n")
     } else {
-        say::bytes(b" differ\n");
+        say::bytes(rt, b" differ\n")
     }
 }

@@ -3,12 +3,9 @@
 use Prim.Native.Nat.{ℕ, suc, ◌+◌, ◌≤◌}
 use mathlib.Core.Path.{◌≡◌, refl, sym, ap, ap₂, ◌∙◌}
 use mathlib.Core.List.{List, [], ◌∷◌}
-use mathlib.Core.Logic.{⊎_elim}
 use native.Mathlib.Omega.{arith}
 use lib.ListN.{length, drop}
 use lib.Seq.{sets, length-sets}
-use types.Run.{OneOf}
-use denote.Enum.Declared.{tag_of}
 use Rattle.numbers.specs.Form.{bytes_of, width_of}
 use Rattle.numbers.proofs.Groups.{width_counts}
 use Rattle.trace.proofs.Stores.{sets_append}
@@ -17,7 +14,6 @@ use Rattle.words.specs.Text.{words_of, numbers_of}
 use Rattle.words.specs.Answer.{encode_answer, if_bytes, encoded}
 use Rattle.words.specs.Inside.{word_from, Fits}
 use Rattle.words.specs.declared.EncodeAnswer.{EncodeAnswer}
-use Rattle.words.specs.contracts.EncodeAnswer.{the_type}
 use Rattle.words.specs.declared.EncodeAnswer.TheVariants.{Bytes, NotANumber, TooLarge, NoRoom}
 use Rattle.words.specs.declared.next.Word.TheVariants.{Number, NotDigits, Large, Nothing}
 use Rattle.words.proofs.Turns.{found, found_none, fits_not, fits_large, fits-room, fits_next}
@@ -69,9 +65,9 @@ module _ {text old out : List ℕ} {from at : ℕ} (p : Put text old out from at
           same = ap length q ∙ length-sets out at (bytes_of v) ∙ p.same;
         }
 
--- an answer that is not the first of its enum is a refusal
-not_bytes : (r : EncodeAnswer) (new old : List ℕ) → OneOf (1 ∷ 2 ∷ 3 ∷ []) (tag_of the_type r) → old ≡ if_bytes r new old
-not_bytes (Bytes n) new old h = absurd (⊎_elim (λ e. omega arith) (λ h'. ⊎_elim (λ e. omega arith) (λ e. omega arith) h') h)
+-- an answer that is no number of bytes is a refusal
+not_bytes : (r : EncodeAnswer) (new old : List ℕ) → ((n : ℕ) → r ≡ Bytes n → ⊥) → old ≡ if_bytes r new old
+not_bytes (Bytes n) new old h = absurd (h n refl)
 not_bytes (NotANumber k) new old h = refl
 not_bytes (TooLarge k) new old h = refl
 not_bytes (NoRoom k) new old h = refl
@@ -80,7 +76,7 @@ module _ (text old : List ℕ) (r : EncodeAnswer) (q : r ≡ encode_answer text 
   abbrev all : List ℕ
   all = sets old 0 (bytes_of_all (numbers_of (words_of text)))
 
-  pub kept : OneOf (1 ∷ 2 ∷ 3 ∷ []) (tag_of the_type r) → old ≡ encoded text old
+  pub kept : ((n : ℕ) → r ≡ Bytes n → ⊥) → old ≡ encoded text old
   kept h = not_bytes r all old h ∙ ap (λ (x : EncodeAnswer). if_bytes x all old) q
 
   pub put_all : (out : List ℕ) (n : ℕ) → out ≡ all → r ≡ Bytes n → out ≡ encoded text old

@@ -1,7 +1,6 @@
 -- `buffer::put` meets its contract.
 -- Assumes nothing.
 use mathlib.Core.Path.{refl, sym, ◌∙◌}
-use Prim.Native.Nat.{◌-◌}
 use native.Mathlib.Nat.{add-zero}
 use borrow.Author.Rules.{rules}
 use Rattle.buffer.proofs.Storing.{one_more, none_left, stored_all, stored_none}

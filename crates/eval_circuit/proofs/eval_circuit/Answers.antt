@@ -95,7 +95,7 @@ over_here c =
     over_is (memory-4 c) a.ptr a.num_vars a.num_eval _ _ c.first_over-over.ensures (omega arith)
 
 pub returns-then-over-end : goal.returns-then-over-end
-returns-then-over-end c = let a = c.args in  record { result_value = (stops_over a.ctx a.clk a.ptr a.num_vars a.num_eval a.memory.now (lent a.values.now a.counts.now a.nodes.now) (region-4 c) (opened-here c).0 _ (over_here c) (search rules)).0; nodes_after = (stops_over a.ctx a.clk a.ptr a.num_vars a.num_eval a.memory.now (lent a.values.now a.counts.now a.nodes.now) (region-4 c) (opened-here c).0 _ (over_here c) (search rules)).1 }
+returns-then-over-end c = let a = c.args in record { result_value = (stops_over a.ctx a.clk a.ptr a.num_vars a.num_eval a.memory.now (lent a.values.now a.counts.now a.nodes.now) (region-4 c) (opened-here c).0 _ (over_here c) (search rules)).0; nodes_after = (stops_over a.ctx a.clk a.ptr a.num_vars a.num_eval a.memory.now (lent a.values.now a.counts.now a.nodes.now) (region-4 c) (opened-here c).0 _ (over_here c) (search rules)).1 }
 
 abbrev state-2 : After-run-arg-3-1 → CircuitEvaluation
 state-2 c = c.in-Opened.state
@@ -203,9 +203,12 @@ pub returns-in_default-answer : goal.returns-in_default-answer
 returns-in_default-answer c =
     let k = c in
     let a = c.args in
-    record { result_value = (ends_otherwise a.ctx a.clk a.ptr a.num_vars a.num_eval a.memory.now (lent a.values.now a.counts.now a.nodes.now) (region-7 c) (opened-here-4 k).0 _ (over_here-4 c) (none_over-3 c) _ (opened-here-4 k).1
-    _ (lent c.run-answer.new.values c.run-answer.new.counts c.run-answer.new.nodes) c.run-answer.ensures.result_value c.run-answer.ensures.ran _ _ c.in_default-answer.is c.clear.ensures.values_after c.clear.ensures.counts_after c.clear.ensures.nodes_after).0; nodes_after = (ends_otherwise a.ctx a.clk a.ptr a.num_vars a.num_eval a.memory.now (lent a.values.now a.counts.now a.nodes.now) (region-7 c) (opened-here-4 k).0 _ (over_here-4 c) (none_over-3 c) _ (opened-here-4 k).1
-    _ (lent c.run-answer.new.values c.run-answer.new.counts c.run-answer.new.nodes) c.run-answer.ensures.result_value c.run-answer.ensures.ran _ _ c.in_default-answer.is c.clear.ensures.values_after c.clear.ensures.counts_after c.clear.ensures.nodes_after).1 }
+    record {
+      result_value = (ends_otherwise a.ctx a.clk a.ptr a.num_vars a.num_eval a.memory.now (lent a.values.now a.counts.now a.nodes.now) (region-7 c) (opened-here-4 k).0 _ (over_here-4 c) (none_over-3 c) _ (opened-here-4 k).1
+          _ (lent c.run-answer.new.values c.run-answer.new.counts c.run-answer.new.nodes) c.run-answer.ensures.result_value c.run-answer.ensures.ran _ _ c.in_default-answer.is c.clear.ensures.values_after c.clear.ensures.counts_after c.clear.ensures.nodes_after).0;
+      nodes_after = (ends_otherwise a.ctx a.clk a.ptr a.num_vars a.num_eval a.memory.now (lent a.values.now a.counts.now a.nodes.now) (region-7 c) (opened-here-4 k).0 _ (over_here-4 c) (none_over-3 c) _ (opened-here-4 k).1
+          _ (lent c.run-answer.new.values c.run-answer.new.counts c.run-answer.new.nodes) c.run-answer.ensures.result_value c.run-answer.ensures.ran _ _ c.in_default-answer.is c.clear.ensures.values_after c.clear.ensures.counts_after c.clear.ensures.nodes_after).1;
+    }
 
 abbrev memory-8 : In-Zero → List ℕ
 memory-8 c = c.args.memory.now
@@ -239,6 +242,9 @@ pub returns : goal.returns
 returns c =
     let k = c in
     let a = c.args in
-    record { result_value = (ends_zero a.ctx a.clk a.ptr a.num_vars a.num_eval a.memory.now (lent a.values.now a.counts.now a.nodes.now) (region-8 c) (opened-here-5 k).0 _ (over_here-5 c) (none_over-4 c) _ (opened-here-5 k).1
-    _ (lent c.run-answer.new.values c.run-answer.new.counts c.run-answer.new.nodes) c.run-answer.ensures.result_value c.run-answer.ensures.ran _ c.in-Zero.is).0; nodes_after = (ends_zero a.ctx a.clk a.ptr a.num_vars a.num_eval a.memory.now (lent a.values.now a.counts.now a.nodes.now) (region-8 c) (opened-here-5 k).0 _ (over_here-5 c) (none_over-4 c) _ (opened-here-5 k).1
-    _ (lent c.run-answer.new.values c.run-answer.new.counts c.run-answer.new.nodes) c.run-answer.ensures.result_value c.run-answer.ensures.ran _ c.in-Zero.is).1 }
+    record {
+      result_value = (ends_zero a.ctx a.clk a.ptr a.num_vars a.num_eval a.memory.now (lent a.values.now a.counts.now a.nodes.now) (region-8 c) (opened-here-5 k).0 _ (over_here-5 c) (none_over-4 c) _ (opened-here-5 k).1
+          _ (lent c.run-answer.new.values c.run-answer.new.counts c.run-answer.new.nodes) c.run-answer.ensures.result_value c.run-answer.ensures.ran _ c.in-Zero.is).0;
+      nodes_after = (ends_zero a.ctx a.clk a.ptr a.num_vars a.num_eval a.memory.now (lent a.values.now a.counts.now a.nodes.now) (region-8 c) (opened-here-5 k).0 _ (over_here-5 c) (none_over-4 c) _ (opened-here-5 k).1
+          _ (lent c.run-answer.new.values c.run-answer.new.counts c.run-answer.new.nodes) c.run-answer.ensures.result_value c.run-answer.ensures.ran _ c.in-Zero.is).1;
+    }

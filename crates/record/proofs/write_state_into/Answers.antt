@@ -11,8 +11,8 @@ returns-in-Header c =
     let a = c.args in
     let b = (lent a.values.now a.counts.now a.nodes.now) in
     let e = ap header_told (sym c.in-Header.is) ∙ c.finalized-finalized.ensures in
-    let w = (c.write_into.ensures.result_value, c.write_into.ensures.out_after) in
-    record { result_value = state_answer a.state b a.out.now _ e _ w.0; out_after = state_leaves a.state b a.out.now _ e _ w.1 }
+    let w = c.write_into.ensures in
+    record { result_value = state_answer a.state b a.out.now _ e _ w.result_value; out_after = state_leaves a.state b a.out.now _ e _ w.out_after }
 
 pub returns-in-Refused : goal.returns-in-Refused
 returns-in-Refused c =

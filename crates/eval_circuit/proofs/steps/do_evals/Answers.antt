@@ -1,7 +1,7 @@
 -- `eval_circuit::steps::do_evals` meets its contract.
 -- Assumes nothing.
 use mathlib.Core.Path.{refl}
-use Prim.Native.Nat.{◌-◌, ◌<◌}
+use Prim.Native.Nat.{◌<◌}
 use native.Mathlib.Omega.{arith}
 use borrow.Author.Rules.{rules}
 use Rattle.eval_circuit.proofs.Turns.{eval_on, eval_off, gone_more, evals_end}
@@ -38,4 +38,4 @@ loop-i-preserved c =
     (search rules, search rules, d.1, d.2, gone_more _ _ _ _ c.requires.0 _ l.invariant.4 d.0, search rules, search rules, search rules)
 
 pub returns : goal.returns
-returns c = let l = c.loop-i in  record { result_value = (evals_end _ _ _ _ c.requires.0 _ _ _ (search rules) l.invariant.2 l.invariant.3 l.invariant.4).0; left = (evals_end _ _ _ _ c.requires.0 _ _ _ (search rules) l.invariant.2 l.invariant.3 l.invariant.4).1 }
+returns c = let l = c.loop-i in record { result_value = (evals_end _ _ _ _ c.requires.0 _ _ _ (search rules) l.invariant.2 l.invariant.3 l.invariant.4).0; left = (evals_end _ _ _ _ c.requires.0 _ _ _ (search rules) l.invariant.2 l.invariant.3 l.invariant.4).1 }

@@ -1,7 +1,7 @@
 -- `eval_circuit::steps::do_reads` meets its contract.
 -- Assumes nothing.
 use mathlib.Core.Path.{refl, sym}
-use Prim.Native.Nat.{◌-◌, ◌<◌}
+use Prim.Native.Nat.{◌<◌}
 use native.Mathlib.Omega.{arith}
 use borrow.Author.Rules.{rules}
 use Rattle.eval_circuit.proofs.Turns.{read_on, read_off, reads_end}

@@ -1,6 +1,6 @@
 -- `field::cells::first_over` meets its contract.
 -- Assumes nothing.
-use Rattle.std.proofs.Common.{◌-◌, refl, ◌∙◌, inl, inr, rules}
+use Rattle.std.proofs.Common.{refl, ◌∙◌, inl, inr, rules}
 use Rattle.field.proofs.Over.{over_at, over_next, over_end}
 use Rattle.field.proofs.cells.first_over.Goals as goal
 

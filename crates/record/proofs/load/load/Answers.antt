@@ -88,13 +88,9 @@ id-next-here c = id_next_is _ _ _ _ c.number_at-ctx.ensures.next_value c.number_
 
 pub returns : goal.returns
 returns c =
-    let k = c in
-    let w = k in
-    let l = (c.load_nodes-lengths.ensures.reads_value, c.load_nodes-lengths.ensures.evals_value, c.load_nodes-lengths.ensures.nodes_after) in
-    record { result_value = (let v = (c.load_wires-declared_at.ensures.value, c.load_wires-declared_at.ensures.values_after, c.load_wires-declared_at.ensures.counts_after) in (
-      header_is _ _ _ _ _ _ (ctx_is _ _ w.number_at-ctx.ensures.value_value) (clk-here-2 w) (reads_are _ _ _ (nodes-place-3 k) l.0) (evals_are _ _ _ (nodes-place-3 k) l.1.0) (id-next-here w),
-      record_is _ _ _ _ _ _ _ _ (wires-here-4 w) (wires-place-4 w) (nodes-place-3 k) v.1.0 v.1.1 l.1.1,
-    )).0; nodes_after = (let v = (c.load_wires-declared_at.ensures.value, c.load_wires-declared_at.ensures.values_after, c.load_wires-declared_at.ensures.counts_after) in (
-      header_is _ _ _ _ _ _ (ctx_is _ _ w.number_at-ctx.ensures.value_value) (clk-here-2 w) (reads_are _ _ _ (nodes-place-3 k) l.0) (evals_are _ _ _ (nodes-place-3 k) l.1.0) (id-next-here w),
-      record_is _ _ _ _ _ _ _ _ (wires-here-4 w) (wires-place-4 w) (nodes-place-3 k) v.1.0 v.1.1 l.1.1,
-    )).1 }
+    let l = c.load_nodes-lengths in
+    let v = c.load_wires-declared_at in
+    record {
+      result_value = header_is _ _ _ _ _ _ (ctx_is _ _ c.number_at-ctx.ensures.value_value) (clk-here-2 c) (reads_are _ _ _ (nodes-place-3 c) l.ensures.reads_value) (evals_are _ _ _ (nodes-place-3 c) l.ensures.evals_value) (id-next-here c);
+      nodes_after = record_is _ _ _ _ _ _ _ _ (wires-here-4 c) (wires-place-4 c) (nodes-place-3 c) v.ensures.values_after v.ensures.counts_after l.ensures.nodes_after;
+    }

@@ -1,6 +1,5 @@
 -- `record::load::load_cells` meets its contract.
 -- Assumes nothing.
-use Prim.Native.Nat.{◌-◌}
 use borrow.Author.Rules.{rules}
 use Rattle.record.proofs.CellLoads.{loading_start, loading_next, loaded_place, loaded_cells}
 use Rattle.record.proofs.load.load_cells.Goals as goal

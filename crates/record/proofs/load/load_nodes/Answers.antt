@@ -10,8 +10,8 @@ use Rattle.record.proofs.load.load_nodes.Goals.{After-load_cells-arg-2-1, After-
 
 evals-place : (c : After-number_at-evals) → c.load_cells-evals_at.result ≡ eval_list_from c.args.source.now c.args.at
 evals-place c =
-    let r = (c.number_at-reads.ensures.value_value, c.number_at-reads.ensures.next_value) in
-    evals_at_lem _ _ _ _ _ r.0 r.1 c.load_cells-evals_at.ensures.value
+    let r = c.number_at-reads.ensures in
+    evals_at_lem _ _ _ _ _ r.value_value r.next_value c.load_cells-evals_at.ensures.value
 
 evals : (c : After-number_at-evals) → c.number_at-evals.result.value ≡ number_at c.args.source.now (eval_list_from c.args.source.now c.args.at)
 evals c = c.number_at-evals.ensures.value_value ∙ ap (number_at _) (evals-place c)
@@ -21,8 +21,8 @@ overflow_mul-eval_cells c = omega (arith, evals c)
 
 evals-place-2 : (c : After-load_cells-arg-2-1) → c.load_cells-evals_at.result ≡ eval_list_from c.args.source.now c.args.at
 evals-place-2 c =
-    let r = (c.number_at-reads.ensures.value_value, c.number_at-reads.ensures.next_value) in
-    evals_at_lem _ _ _ _ _ r.0 r.1 c.load_cells-evals_at.ensures.value
+    let r = c.number_at-reads.ensures in
+    evals_at_lem _ _ _ _ _ r.value_value r.next_value c.load_cells-evals_at.ensures.value
 
 evals-2 : (c : After-load_cells-arg-2-1) → c.number_at-evals.result.value ≡ number_at c.args.source.now (eval_list_from c.args.source.now c.args.at)
 evals-2 c = c.number_at-evals.ensures.value_value ∙ ap (number_at _) (evals-place-2 c)
@@ -32,8 +32,8 @@ load_cells-requires c = omega (arith, evals-2 c)
 
 evals-place-3 : (c : After-slice_known-3-1) → c.load_cells-evals_at.result ≡ eval_list_from c.args.source.now c.args.at
 evals-place-3 c =
-    let r = (c.number_at-reads.ensures.value_value, c.number_at-reads.ensures.next_value) in
-    evals_at_lem _ _ _ _ _ r.0 r.1 c.load_cells-evals_at.ensures.value
+    let r = c.number_at-reads.ensures in
+    evals_at_lem _ _ _ _ _ r.value_value r.next_value c.load_cells-evals_at.ensures.value
 
 evals-3 : (c : After-slice_known-3-1) → c.number_at-evals.result.value ≡ number_at c.args.source.now (eval_list_from c.args.source.now c.args.at)
 evals-3 c = c.number_at-evals.ensures.value_value ∙ ap (number_at _) (evals-place-3 c)
@@ -41,5 +41,5 @@ evals-3 c = c.number_at-evals.ensures.value_value ∙ ap (number_at _) (evals-pl
 pub returns : goal.returns
 returns c =
     let k = c in
-    let reads = (c.number_at-reads.ensures.value_value, c.number_at-reads.ensures.next_value) in
-    record { reads_value = reads.0; evals_value = evals-3 k; nodes_after = nodes-stored _ _ _ _ _ _ _ _ _ c.load_cells-evals_at.ensures.cells_after c.load_cells.ensures.cells_after reads.0 reads.1 (evals-3 k) (k.number_at-evals.ensures.next_value ∙ ap (next_at _) (evals-place-3 k)) }
+    let reads = c.number_at-reads.ensures in
+    record { reads_value = reads.value_value; evals_value = evals-3 k; nodes_after = nodes-stored _ _ _ _ _ _ _ _ _ c.load_cells-evals_at.ensures.cells_after c.load_cells.ensures.cells_after reads.value_value reads.next_value (evals-3 k) (k.number_at-evals.ensures.next_value ∙ ap (next_at _) (evals-place-3 k)) }

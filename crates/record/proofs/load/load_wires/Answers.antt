@@ -1,6 +1,5 @@
 -- `record::load::load_wires` meets its contract.
 -- Assumes nothing.
-use Prim.Native.Nat.{◌-◌}
 use native.Mathlib.Omega.{arith}
 use borrow.Author.Rules.{rules}
 use Rattle.record.proofs.WireLoads.{wires_start, count_is_u32, wires_next, loaded_wires}

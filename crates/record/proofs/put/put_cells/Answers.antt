@@ -1,7 +1,6 @@
 -- `record::put::put_cells` meets its contract.
 -- Assumes nothing.
 use mathlib.Core.Path.{◌≡◌, refl}
-use Prim.Native.Nat.{◌-◌}
 use native.Mathlib.Omega.{arith}
 use borrow.Author.Rules.{rules}
 use Rattle.record.proofs.Putting.{wrote_none, cell_room, cell_wrote}
@@ -21,7 +20,7 @@ loop-i-preserved c =
     let l = c.loop-i in
     let s = c in
     let p = c.put-next in
-    (search rules, cell_wrote s.args.cells.now s.args.from l.i l.invariant.1 _ _ (search rules) p.ensures.0 p.ensures.1, search rules)
+    (search rules, cell_wrote s.args.cells.now s.args.from l.i l.invariant.1 _ _ (search rules) p.ensures.value p.ensures.out_after, search rules)
 
 pub returns : goal.returns
 returns c =

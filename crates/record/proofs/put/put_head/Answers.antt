@@ -83,5 +83,5 @@ id-put-2 c = wrote_then (clk-put-3 c) _ _ _ c.put-wires_at.ensures.value c.put-w
 pub returns : goal.returns
 returns c =
     let p = c.put in
-    let w = wrote_then (id-put-2 c) _ _ _ p.ensures.0 p.ensures.1 in
+    let w = wrote_then (id-put-2 c) _ _ _ p.ensures.value p.ensures.out_after in
     record { value = omega (arith, w.place); out_after = w.bytes }

@@ -10,11 +10,11 @@ pub put_cells-requires : goal.put_cells-requires
 put_cells-requires c =
     let s = c in
     let p = c.put-next in
-    (s.requires.0, room_rest (wrote_one _ _ _ _ _ p.ensures.0 p.ensures.1) _ s.requires.1)
+    (s.requires.0, room_rest (wrote_one _ _ _ _ _ p.ensures.value p.ensures.out_after) _ s.requires.1)
 
 pub returns : goal.returns
 returns c =
     let p = c.put-next in
     let q = c.put_cells in
-    let w = wrote_on (wrote_one _ _ _ _ _ p.ensures.0 p.ensures.1) _ _ _ (wrote _ _ _ _ _ q.ensures.0 q.ensures.1) in
+    let w = wrote_on (wrote_one _ _ _ _ _ p.ensures.value p.ensures.out_after) _ _ _ (wrote _ _ _ _ _ q.ensures.value q.ensures.out_after) in
     record { value = w.place; out_after = w.bytes }

@@ -149,4 +149,4 @@ returns c =
     let w = p in
     let h = w in
     let s = h in
-    record_wrote (header-6 s) (buffers-6 s) s.args.out.now s.requires.1 (heads-put-5 h) (wires-put-4 w) (declared-put-3 p) (reads-put-2 r) (wrote _ _ _ _ _ e.ensures.0 e.ensures.1)
+    record_wrote (header-6 s) (buffers-6 s) s.args.out.now s.requires.1 (heads-put-5 h) (wires-put-4 w) (declared-put-3 p) (reads-put-2 r) (wrote _ _ _ _ _ e.ensures.value e.ensures.out_after)

@@ -2,7 +2,7 @@
 -- Assumes nothing.
 use mathlib.Core.Path.{◌≡◌, refl}
 use mathlib.Core.List.{List, [], ◌∷◌}
-use Prim.Native.Nat.{ℕ, ◌+◌, ◌-◌, ◌≤◌}
+use Prim.Native.Nat.{ℕ, ◌+◌, ◌≤◌}
 use native.Mathlib.Omega.{arith}
 use lib.ListN.{length, get_or}
 use borrow.Author.Rules.{rules}
@@ -91,7 +91,7 @@ loop-k-preserved c =
     let l = c.loop-k in
     let a = c.args in
     let p = c.put-next-in-loop-k-2 in
-    let w = wrote_then (two-put-2 c) _ _ _ p.ensures.0 p.ensures.1 in
+    let w = wrote_then (two-put-2 c) _ _ _ p.ensures.value p.ensures.out_after in
     (search rules, wire_wrote a.values.now a.counts.now l.k l.invariant.1 _ _ w, search rules)
 
 pub returns : goal.returns

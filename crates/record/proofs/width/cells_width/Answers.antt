@@ -1,7 +1,6 @@
 -- `record::width::cells_width` meets its contract.
 -- Assumes nothing.
 use mathlib.Core.Path.{◌≡◌, sym}
-use Prim.Native.Nat.{◌-◌}
 use native.Mathlib.Omega.{arith}
 use borrow.Author.Rules.{rules}
 use Rattle.record.proofs.Widths.{taken_none, narrow, cells_taken}

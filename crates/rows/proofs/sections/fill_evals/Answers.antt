@@ -1,7 +1,6 @@
 -- `rows::sections::fill_evals` meets its contract.
 -- Assumes nothing.
 use mathlib.Core.Path.{refl}
-use Prim.Native.Nat.{◌-◌}
 use borrow.Author.Rules.{rules}
 use Rattle.field.proofs.Each.{each_none}
 use Rattle.rows.specs.Rows.{record_eval_row}

@@ -1,7 +1,6 @@
 -- `runs::Ace::insert_at` meets its contract.
 -- Assumes nothing.
 use mathlib.Core.Path.{◌≡◌}
-use Prim.Native.Nat.{◌-◌}
 use lib.ListN.{length}
 use Rattle.runs.proofs.Held.{held}
 use Rattle.runs.proofs.Scans.{moved_start, moved_on, moved_end}

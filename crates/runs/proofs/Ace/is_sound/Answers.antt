@@ -1,7 +1,6 @@
 -- `runs::Ace::is_sound` meets its contract.
 -- Assumes nothing.
 use mathlib.Core.Path.{◌≡◌}
-use Prim.Native.Nat.{◌-◌}
 use lib.ListN.{length}
 use borrow.Author.Rules.{rules}
 use Rattle.runs.proofs.Held.{held}
