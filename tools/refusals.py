@@ -1,9 +1,10 @@
 #!/usr/bin/env python3
-"""Checks each must-fail edit by itself, after rt ci, which prints only the first line of what the prover says of one. The edit is
-made in a copy of the crates, `rt check` is run on its crate there, and all that it says stays in target/must-fail/CRATE/EDIT.log.
-Fails where a wrong program was not refused at the place that it names (tools/wrong.py), or where an error is of form alone: a
-proof file no longer names the code's places, and no fact fails beside it. Such an edit would say nothing about the contract.
-(rt itself turns down an edit that does not compile.) Names of crates as arguments: their edits alone."""
+"""usage: tools/refusals.py [LOG] [CRATE..]. Sees that each wrong program of the must-fail edits is refused at the place that it
+names (tools/wrong.py). LOG is what rt ci printed, the first line of what the prover says of each edit: where an edit makes one wrong
+program, and that line tells of a fact that fails at its place, this is enough. Each other edit is made once more, in a copy of the
+crates, `rt check` is run on its crate there, and all that it says stays in target/must-fail/CRATE/EDIT.log. An error of form alone is
+a fault too: a proof file no longer names the code's places, and no fact fails beside it. Such an edit would say nothing about the
+contract. (rt itself turns down an edit that does not compile.) With names of crates, their edits alone."""
 import concurrent.futures
 import os
 import pathlib
@@ -20,6 +21,7 @@ LOGS = pathlib.Path("target/must-fail")
 ERROR = re.compile(r"(?:\./)?((?:proofs|specs)/\S+\.antt):\d+:\d+: error: (.*)")
 OPEN = re.compile(r"note: src/\S+:\d+:\d+: it is not proved that (.*)")
 FUNCTION = re.compile(r"fn (\w+)::(\S+): ")
+SAID = re.compile(r"^rt: must-fail (\w+)/([\w.-]+)\.edit: refused, as it must be: (.*)$", re.M)
 FORM = ("has no field `", "has no `", "is not in scope")
 # Said of what rests on a part that failed, and where the prover gave up: neither is a fact that fails.
 NO_FACT = ("was not admitted", "was not checked", "were not checked", "stopped at a bound of its own", "gave up at one of its limits")
@@ -44,6 +46,12 @@ def places(said):
                 facts |= {f"proofs/{folder}/{file}.antt" for file in ("Answers", "Invariants")}
             are_open = False
     return facts, [(place, error) for place, error in form if place not in facts]
+
+
+def is_refused(made, line):
+    """Whether a line of rt ci shows that the only wrong program of an edit is refused at its place."""
+    error = ERROR.match(line)
+    return error and [program.place for program in made] == [error[1]] and not any(text in error[2] for text in FORM + NO_FACT)
 
 
 def refusals(made, said):
@@ -92,18 +100,22 @@ def checked(made, copies):
 
 
 def main():
-    edits = [made for made in wrong.by_edit() if made[0].crate in sys.argv[1:] or len(sys.argv) == 1]
+    logs = [word for word in sys.argv[1:] if pathlib.Path(word).is_file()]
+    crates = [word for word in sys.argv[1:] if word not in logs]
+    lines = {(crate, edit): line for log in logs for crate, edit, line in SAID.findall(pathlib.Path(log).read_text("utf-8"))}
+    edits = [made for made in wrong.by_edit() if made[0].crate in crates or not crates]
+    left = [made for made in edits if not is_refused(made, lines.get((made[0].crate, made[0].edit), ""))]
     found = []
     with tempfile.TemporaryDirectory() as scratch:
         copies, lanes = queue.Queue(), len(os.sched_getaffinity(0))
         for lane in range(lanes):
             copies.put(copied(pathlib.Path(scratch, str(lane))))
         with concurrent.futures.ThreadPoolExecutor(lanes) as pool:
-            for faults in pool.map(lambda made: checked(made, copies), edits):
+            for faults in pool.map(lambda made: checked(made, copies), left):
                 found += faults
     for fault in found:
         print(f"refusals: {fault}", file=sys.stderr)
-    print(f"refusals: {sum(map(len, edits))} wrong programs in {len(edits)} must-fail edits, {len(found)} faults")
+    print(f"refusals: {sum(map(len, edits))} wrong programs in {len(edits)} must-fail edits, {len(left)} made once more, {len(found)} faults")
     sys.exit(1 if found or not edits else 0)
 
 
