@@ -1,14 +1,13 @@
 # shellcheck shell=sh disable=SC2013,SC2034,SC2154
-# For the scripts of benches/, which source it in the repository: `archive_of CRATE` makes the static
-# library of a crate, sets $archive to its folder and says which way it went. $work is a folder for what is
-# made. On x86-64 the archive is the one that rt wrote. On Arm that one links into no program, since rt
-# compiles for x86-64: there the module that rattle hands to clang is kept, turned to Arm and compiled by the
-# same clang, so that what is timed comes from the proved crate but is no archive that rt wrote.
+# For the scripts of benches/, which source it in the repository: `archive_of NAME` makes the static
+# library of the crate NAME, sets $archive to its folder and says which way it went. $work is a folder for
+# what is made. On x86-64 the archive is the one that rt wrote (tools/staticlib). On Arm that one links into no
+# program, since rt compiles for x86-64: there the module that rattle hands to clang is kept, turned to Arm and
+# compiled by the same clang, so that what is timed comes from the proved crate but is no archive that rt wrote.
 
 machine=$(uname -m)
-kit=$(dirname "$(dirname "$(rt doc)")")
-host=$kit/on/$machine
-toolchain=$host/toolchain
+kit=$(dirname "$(rt doc)")
+toolchain=$kit/toolchain
 
 # A toolchain folder whose clang keeps the module that it is handed as $work/module.bc.
 keeping_toolchain() {
@@ -37,27 +36,30 @@ turned() {
 }
 
 turn_to_arm() {
-    crate=$1
+    name=$1 crate=$1_c
     keeping_toolchain
-    set -- --extern "std=$host/rlib/std.rlib"
-    for name in $(sed -n "s/^$crate: //p" crates.txt); do
-        set -- "$@" --extern "$name=target/rlib/$name.rlib"
+    set -- --extern "std=$kit/rlibs/std.rlib" -L "dependency=$kit/rlibs"
+    for dep in $(sed -n "s/^$crate staticlib: //p" crates.txt); do
+        set -- "$@" --extern "$dep=crates/$dep/out/rlib/$dep.rlib"
     done
-    "$host/bin/rattle" build --crate-name "$crate" "crates/$crate/src/lib.rt" "$@" \
-        -L dependency=target/rlib -L "dependency=$host/rlib" \
-        --antt-project "$kit/logic/antt-project.json" --logic-built "$host/logic-built" \
-        --toolchain "$work/keep" --crate-type staticlib -o "$work/unused.a" >"$work/build.out" 2>&1 ||
+    for folder in crates/*/out/rlib; do
+        set -- "$@" -L "dependency=$folder"
+    done
+    "$kit/bin/rattle" build --crate-name "$crate" "crates/$crate/src/lib.rt" "$@" \
+        --antt-project "$kit/rattle/logic/antt-project.json" --logic-built "$kit/logic_built" \
+        --links "$crate=" --toolchain "$work/keep" --backend llvm \
+        --crate-type staticlib -o "$work/unused.a" >"$work/build.out" 2>&1 ||
         { cat "$work/build.out" >&2; exit 1; }
     "$toolchain/bin/clang" --target=x86_64-unknown-linux-gnu -S -emit-llvm -x ir \
         "$work/module.bc" -o "$work/module.ll"
     turned "$work/module.ll" >"$work/turned.ll"
     "$toolchain/bin/clang" --target=aarch64-unknown-linux-gnu -O3 -fPIC -c -x ir \
         "$work/turned.ll" -o "$work/turned.o"
-    "$toolchain/bin/llvm-ar" rcs "$work/lib$crate.a" "$work/turned.o"
+    "$toolchain/bin/llvm-ar" rcs "$work/lib$name.a" "$work/turned.o"
 }
 
 archive_of() {
-    rt staticlib "$1" >"$work/staticlib.out" 2>&1 || { cat "$work/staticlib.out" >&2; exit 1; }
+    tools/staticlib "$1"
     case $machine in
     x86_64)
         archive=target/staticlib

@@ -1,5 +1,5 @@
 #!/bin/sh
-# Times proved whole evaluation, as `rt staticlib ace_c` exports it, against plain Rust, in one run.
+# Times proved whole evaluation, as `ace_c_c` exports it, against plain Rust, in one run.
 set -eu
 cd "$(dirname "$0")/.."
 work=$(mktemp -d)

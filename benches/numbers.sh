@@ -1,5 +1,5 @@
 #!/bin/sh
-# Times the proved numbers of seven-bit groups, as `rt staticlib numbers_c` exports them, against
+# Times the proved numbers of seven-bit groups, as `numbers_c_c` exports them, against
 # plain Rust, in one run.
 set -eu
 cd "$(dirname "$0")/.."

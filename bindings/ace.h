@@ -1,4 +1,4 @@
-/* The ACE chiplet for callers in C: the static library libace_c.a that `rt staticlib ace_c` writes.
+/* The ACE chiplet for callers in C: the static library libace_c.a that `tools/staticlib ace_c` writes.
  * "Document 01" is the paper "Exact rules for the build"; what stands in quotation marks is from it.
  *
  * Every function returns 0, or the number of a refusal (enum ace_refusal). `place` gets what the

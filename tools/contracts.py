@@ -1,9 +1,10 @@
 #!/usr/bin/env python3
 """Holds docs/CONTRACTS.md to the code: it names every public function and no other, and every wrong
 program of the must-fail edits and no other; and each public function's contract determines its outcome by form: no
-`requires`, an `ensures` that names the result, and `.exit` of every `&mut` parameter. The line of each
+`requires`, an `ensures` that names the result, and `.new` of every `&mut` parameter. The line of each
 also cites the theorem of crates/determined that any two outcomes of that function are the same. A method
-is public with its type wherever its block stands, so those of private modules say `pub(crate)`."""
+is public with its type wherever its block stands, so those of private modules say `pub(crate)`. A static
+library has no lines: it exports the functions of a library, all of them and under the same clauses."""
 import pathlib
 import re
 import sys
@@ -15,9 +16,9 @@ PROOFS = pathlib.Path("crates/determined/proofs")
 FUNCTION = re.compile(r"\bpub\s+(?:extern\s+\"C\"\s+)?fn\s+(\w+)\s*(?:<[^>]*>)?\s*\(")
 CLAUSE = re.compile(r"\s*(requires|ensures)\b\s*\w*\s*\{")
 ROW = re.compile(r"^\| `(\w+(?:::\w+)+)`(?: \|[^|]*\| `([\w-]+)` \|)?", re.M)
-USE = re.compile(r"^use Rattle·(\w+)\.proofs\.([\w.]+) as ([\w-]+)$", re.M)
-LEARNT = re.compile(r"^pub ([\w-]+) : Determined ([\w-]+)\.ended \2\.Reads\.Learnt$", re.M)
-CLAUSES = re.compile(r"^pub ([\w-]+) : ClausesDetermined ([\w-]+)\.ended \(λ M 𝓤\. \2\.clauses 𝓤\)$", re.M)
+USE = re.compile(r"^use Rattle\.(\w+)\.(?:proofs\.([\w.]+)\.Reads|specs\.contracts\.([\w.]+)) as ([\w-]+)$", re.M)
+LEARNT = re.compile(r"^pub ([\w-]+) : Determined ([\w-]+)\.ended ([\w-]+)\.Learnt$", re.M)
+CLAUSES = re.compile(r"^pub ([\w-]+) : ClausesDetermined ([\w-]+)\.ended \(λ M 𝓤 𝓛\. \2\.clauses 𝓛\)$", re.M)
 
 
 def without_comments(text):
@@ -50,11 +51,11 @@ def faults(parameters, result, clauses):
         yield "has a requires"
     if not ensures:
         yield "says nothing of its outcome"
-    elif result and not re.search(r"λ\s*[^\s_]", ensures):
+    elif result and not re.search(r"\bresult\b", ensures):
         yield "does not name its result"
     for name in re.findall(r"(\w+)\s*:\s*&(?:\s*'\w+)?\s*mut\b", parameters):
-        if not re.search(rf"«?{name}»?\s*\.exit", ensures):
-            yield f"says nothing of {name} at exit"
+        if not re.search(rf"(?<![\w.])«?{name}»?\.new\b", ensures):
+            yield f"says nothing of {name} at the end"
 
 
 def functions(text, path):
@@ -105,8 +106,10 @@ def theorems():
     """The theorems of crates/determined, each with the function whose own contract it is stated over."""
     for module in re.findall(r"^pub mod (\w+)$", (PROOFS / "Lib.antt").read_text("utf-8"), re.M):
         text = (PROOFS / f"{module}.antt").read_text("utf-8")
-        calls = {name: f"{crate}.{path}".replace(".", "::") for crate, path, name in USE.findall(text)}
-        for theorem, name in LEARNT.findall(text) + CLAUSES.findall(text):
+        calls = {name: f"{crate}.{read or cited}".replace(".", "::") for crate, read, cited, name in USE.findall(text)}
+        for theorem, ended, learnt in LEARNT.findall(text):
+            yield calls.get(ended) if calls.get(ended) == calls.get(learnt) else None, theorem
+        for theorem, name in CLAUSES.findall(text):
             yield calls.get(name), theorem
 
 
@@ -121,6 +124,38 @@ def undetermined(lines):
             yield f"{PAPER} does not cite {theorem} for {function}"
 
 
+def exports():
+    """The static libraries of crates.txt, each with the library whose functions it exports."""
+    names = re.findall(r"^(\w+) staticlib:", pathlib.Path("crates.txt").read_text("utf-8"), re.M)
+    return {name: name.removesuffix("_c") for name in names}
+
+
+def said(crate):
+    """What is said of each public function of a crate: its parameters, its result and its clauses, with the definitions that
+    the clauses cite by their whole names; and the functions by the names under which they are called."""
+    found = {}
+    for file, path in modules(pathlib.Path("crates", crate, "src/lib.rt"), f"{crate}::"):
+        text = without_comments(file.read_text("utf-8"))
+        cited = {}
+        for place, names in re.findall(r"\bghost\s+use\s+([\w.]+)\.(\{[^}]*\}|[^\s;{]+)\s*;", text):
+            cited.update((name, f"{place}.{name}") for name in re.findall(r"[^\s,{}]+", names))
+        for name, parameters, result, clauses in functions(text, path):
+            words = [re.sub(r",\s*$", "", parameters), result or ""] + [f"{kind} {body}" for kind, body in clauses]
+            whole = [re.sub(r"[^\s,(){}.]+", lambda word: cited.get(word[0], word[0]), word) for word in words]
+            found[name.rsplit("::", 1)[1]] = ["".join(word.split()) for word in whole]
+    return found
+
+
+def exported(static, library):
+    """What a static library says otherwise than the library whose functions it exports."""
+    out, own = said(static), said(library)
+    yield from (f"{static} does not export {name} of {library}" for name in own.keys() - out.keys())
+    yield from (f"{static} exports {name}, which is none of {library}" for name in out.keys() - own.keys())
+    for name in out.keys() & own.keys():
+        if out[name] != own[name]:
+            yield f"{static}: {name} has not the parameters, the result and the clauses that it has in {library}"
+
+
 def complaints():
     paper = PAPER.read_text("utf-8")
     lines = ROW.findall(paper)
@@ -128,8 +163,10 @@ def complaints():
     rows = [function for function, _ in lines]
     code = {}
     for root in sorted(pathlib.Path("crates").glob("*/src/lib.rt")):
-        code.update(public(root.parents[1]))
+        if root.parents[1].name not in exports():
+            code.update(public(root.parents[1]))
         yield from hidden(root.parents[1])
+    yield from (fault for static, library in exports().items() for fault in exported(static, library))
     yield from (f"{name}: {fault}" for name, lacks in code.items() for fault in lacks)
     yield from (f"{name} is public and {PAPER} does not name it" for name in code if name not in rows)
     yield from (f"{PAPER} names {name}, which is no public function" for name in rows if name not in code)

@@ -65,9 +65,10 @@ def declarations():
 
 
 def promises():
-    """The public functions, and the text of each one's contract."""
+    """The public functions, and the text of each one's contract; those of a static library are another library's."""
     for root in sorted(pathlib.Path("crates").glob("*/src/lib.rt")):
-        for file, path in contracts.modules(root, f"{root.parents[1].name}::"):
+        name = root.parents[1].name
+        for file, path in contracts.modules(root, f"{name}::") if name not in contracts.exports() else ():
             text = contracts.without_comments(file.read_text("utf-8"))
             for name, _, _, clauses in contracts.functions(text, path):
                 yield name, " ".join(body for _, body in clauses)

@@ -25,13 +25,13 @@ class Program:
     @property
     def function(self):
         """The function whose proof the place is; none where it is no function's."""
-        found = re.fullmatch(r"fn (?:\w+::)*(\w+)|proofs/(?:\w+/)*(\w+)/Proof\.antt", self.place)
+        found = re.fullmatch(r"fn (?:\w+::)*(\w+)|proofs/(?:\w+/)*(\w+)/(?:Answers|Invariants)\.antt", self.place)
         return found and (found.group(1) or found.group(2))
 
 
 def of_edit(edit):
     """The programs that an edit makes. A change before the first title is of a program without a label."""
-    made, file = [Program(edit.parts[1], edit.stem, "")], ""
+    made, file, old = [Program(edit.parts[1], edit.stem, "")], "", ""
     for line in edit.read_text("utf-8").splitlines():
         if title := TITLE.match(line):
             made.append(Program(edit.parts[1], edit.stem, title.group(1)))
@@ -40,8 +40,21 @@ def of_edit(edit):
         elif line.startswith("file: "):
             file = line.removeprefix("file: ")
         elif line.startswith("old: "):
-            made[-1].changes.append((file, line.removeprefix("old: ")))
+            old = line.removeprefix("old: ")
+        elif line.startswith("new:"):
+            made[-1].changes.append((file, old, line.removeprefix("new:").removeprefix(" ")))
     return [program for program in made if program.label or program.place or program.changes]
+
+
+def texts(made, crate):
+    """The files of a crate's folder that an edit changes, as it leaves them. A text that it replaces stands there once."""
+    changed = {}
+    for file, old, new in (change for program in made for change in program.changes):
+        text = changed.get(file) or (crate / file).read_text("utf-8")
+        if text.count(old) != 1:
+            raise ValueError(f"{file} has {text.count(old)} times, not once, the text '{old}'")
+        changed[file] = text.replace(old, new)
+    return changed
 
 
 def function_around(text, at):
@@ -58,7 +71,7 @@ def stray(program):
     """What keeps a program from standing beside others in an edit."""
     if not program.function:
         yield f"{program.name} fails at {program.place}, which is no function's proof"
-    for file, old in program.changes:
+    for file, old, _ in program.changes:
         source = pathlib.Path("crates", program.crate, file).read_text("utf-8")
         if function_around(source, source.find(old)) != program.function:
             yield f"{program.name} changes {file} outside {program.function}"
@@ -69,6 +82,8 @@ def faults(made):
     for program in made:
         if not (program.label and program.place and program.changes):
             yield f"{program.crate}/{program.edit}: a wrong program lacks its title, its place or its change"
+        elif "/" in program.place and not pathlib.Path("crates", program.crate, program.place).exists():
+            yield f"{program.name} fails at {program.place}, and there is no such file"
     for program in made if len(made) > 1 else ():
         yield from stray(program)
     if not made:

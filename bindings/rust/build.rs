@@ -1,4 +1,4 @@
-//! Tells where libace_c.a is: the folder in ACE_C_DIR, or else where `rt staticlib ace_c` writes it.
+//! Tells where libace_c.a is: the folder in ACE_C_DIR, or else where `tools/staticlib ace_c` writes it.
 
 use std::env;
 use std::path::{Path, PathBuf};
@@ -14,7 +14,7 @@ fn main() {
     println!("cargo:rerun-if-changed={}", archive.display());
     assert!(
         archive.is_file(),
-        "{} is not there: `rt staticlib ace_c` writes it",
+        "{} is not there: `tools/staticlib ace_c` writes it",
         archive.display()
     );
     println!("cargo:rustc-link-search=native={}", folder.display());

@@ -1,4 +1,4 @@
-//! Safe calls of libace_c.a, the proved ACE chiplet (`rt staticlib ace_c`). "Document 01" is the paper
+//! Safe calls of libace_c.a, the proved ACE chiplet (`tools/staticlib ace_c`). "Document 01" is the paper
 //! "Exact rules for the build"; every call answers every input as it says, and a refusal is an
 //! [`Err`] with its number and place. `bindings/ace.h` says of each call what it refuses, in which
 //! order, and what it leaves alone.

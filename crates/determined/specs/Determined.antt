@@ -11,8 +11,8 @@ use contract.Monad.{Fun, fact}
 use denote.Triple.Entry.{Args, Res}
 use denote.Triple.Clauses.{Ended, Lasts, AtExit, at_exit, Clauses}
 
--- T is a function's signature, `f.ended`; κs are the lifetimes of what is lent to it
--- what a contract says: of arguments, of a result, and of the parameters as the function returns. `f.Reads.Learnt` is this of the `ensures` in the source of f, as its callers learn it
+-- T is a function's signature, `specs.contracts.f.ended`; κs are the lifetimes of what is lent to it
+-- what a contract says: of arguments, of a result, and of the parameters as the function returns. `proofs.f.Reads.Learnt` is this of the `ensures` in the source of f, as its callers learn it
 abbrev pub Contract : Ended → Type 1
 Contract T = (κs : Lfts T.signature.lifetimes) → Args T.signature κs → Res T.signature κs → AtExit T κs → Type 0
 
@@ -27,7 +27,7 @@ Allows T contract κs a o = contract κs a o.0 (at_exit T κs a o.1)
 abbrev pub Determined : (T : Ended) → Contract T → Type 0
 Determined T contract = (κs : Lfts T.signature.lifetimes) (a : Args T.signature κs) (o q : Outcome T κs a) → Allows T contract κs a o → Allows T contract κs a q → o ≡ q
 
--- the clauses of f as written, `f.clauses`, in every model of memory
+-- the clauses of f as written, `specs.contracts.f.clauses`, in every model of memory
 abbrev pub Written : Ended → Type 2
 Written T = (M : Type 1) (𝓤 : Ura M) → (𝓛 : Logic 𝓤) → (Memory → SProp 𝓤) → (Routine → Fun 𝓤) → Clauses 𝓤 T
 

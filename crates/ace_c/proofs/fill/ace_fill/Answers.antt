@@ -6,6 +6,7 @@ use Rattle.trace.specs.Outcome.{lent}
 use Rattle.rows.specs.Fill.{filled_rows}
 use Rattle.ace_c.proofs.fill.ace_fill.Goals as goal
 
+-- answered, so that a wrong call is seen here: `search` would give up on it
 pub returns-clause-rows_after : goal.returns-clause-rows_after
 returns-clause-rows_after c =
     let a = c.args in

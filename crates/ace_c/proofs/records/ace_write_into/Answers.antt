@@ -6,6 +6,7 @@ use Rattle.trace.specs.Outcome.{lent}
 use Rattle.record.specs.Bytes.{written_into}
 use Rattle.ace_c.proofs.records.ace_write_into.Goals as goal
 
+-- answered, so that a wrong call is seen here: `search` would give up on it
 pub returns-clause-out_after : goal.returns-clause-out_after
 returns-clause-out_after c =
     let a = c.args in

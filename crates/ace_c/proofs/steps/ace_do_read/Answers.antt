@@ -13,6 +13,7 @@ buffers_are : (a : StepAnswer) (b : Lent) → b ≡ (step_outcome a b).buffers
 buffers_are (Done s) b = refl
 buffers_are (Refused s number place) b = refl
 
+-- answered, so that a wrong call is seen here: `search` would give up on it
 pub returns-clause-nodes_after : goal.returns-clause-nodes_after
 returns-clause-nodes_after c =
     let a = c.args in
