@@ -31,7 +31,7 @@ Determined T contract = (κs : Lfts T.signature.lifetimes) (a : Args T.signature
 abbrev pub Written : Ended → Type 2
 Written T = (M : Type 1) (𝓤 : Ura M) → (𝓛 : Logic 𝓤) → (Memory → SProp 𝓤) → (Routine → Fun 𝓤) → Clauses 𝓤 T
 
--- a function over a reference to a state has no `Learnt`: there the contract is given too, with the proof that the clauses say it and nothing else
+-- of a call in place the contract is given in full, with the proof that the clauses say it and nothing else
 pub record ClausesDetermined (T : Ended) (written : Written T) : Type 2 where
   pub contract : Contract T
   pub says : (M : Type 1) (𝓤 : Ura M) (𝓛 : Logic 𝓤) (mem : Memory → SProp 𝓤) (run : Routine → Fun 𝓤) (κs : Lfts T.signature.lifetimes) (a : Args T.signature κs) (g : (written M 𝓤 𝓛 mem run κs a).ghost) (r : Res T.signature κs) (w : AtExit T κs)

@@ -1,5 +1,4 @@
-// From a state by value to the call in place and back. The prover's own walk covers no function that
-// lends a state, but whoever calls these needs none.
+// From a state by value to the call in place and back, for callers that hold the state by value.
 ghost use Rattle.std.specs.Prelude.{◌≡◌};
 ghost use Rattle.trace.specs.Outcome.{lent, outcome};
 ghost use Rattle.trace.specs.Read.{read_step};

@@ -58,8 +58,8 @@ abbrev pub many_cells : List ℕ
 many_cells = 0 ∷ 7 ∷ 0 ∷ 2 ∷ 4 ∷ 129 ∷ 8 ∷ []
 
 -- n of 1024, and no cell
-abbrev pub most_cells_lem : List ℕ
-most_cells_lem = 0 ∷ 7 ∷ 0 ∷ 2 ∷ 4 ∷ 128 ∷ 8 ∷ []
+abbrev pub cells_at_most : List ℕ
+cells_at_most = 0 ∷ 7 ∷ 0 ∷ 2 ∷ 4 ∷ 128 ∷ 8 ∷ []
 
 -- 129 wires, and with a byte behind
 abbrev pub many_wires : List ℕ
@@ -69,8 +69,8 @@ abbrev pub left_first : List ℕ
 left_first = 0 ∷ 7 ∷ 0 ∷ 2 ∷ 127 ∷ 0 ∷ 0 ∷ []
 
 -- 128 wires, and no memory
-abbrev pub most_wires_lem : List ℕ
-most_wires_lem = 0 ∷ 7 ∷ 0 ∷ 4 ∷ 124 ∷ 0 ∷ []
+abbrev pub wires_at_most : List ℕ
+wires_at_most = 0 ∷ 7 ∷ 0 ∷ 4 ∷ 124 ∷ 0 ∷ []
 
 -- 32768 wires, and one more
 abbrev pub last_here : List ℕ
@@ -89,10 +89,10 @@ pub refusals :
     ∷ program_answer left_over
     ∷ program_answer over_u32
     ∷ program_answer many_cells
-    ∷ program_answer most_cells_lem
+    ∷ program_answer cells_at_most
     ∷ program_answer many_wires
     ∷ program_answer left_first
-    ∷ program_answer most_wires_lem
+    ∷ program_answer wires_at_most
     ∷ program_answer last_here
     ∷ program_answer past_here
     ∷ program_answer no_wrap

@@ -8,8 +8,8 @@ use Rattle.trace.specs.Outcome.{Lent}
 
 -- "s_start, s_block, ctx, ptr, clk, eval_op, id_0, v_0 (two), id_1, v_1 (two)"; then four cells more
 abbrev pub row : ℕ → ℕ → ℕ → ℕ → ℕ → ℕ → ℕ → Pair → ℕ → Pair → List ℕ → List ℕ
-row s-start s-block ctx ptr clk eval_op_lem id₀ v₀ id₁ v₁ four =
-    s-start ∷ s-block ∷ ctx ∷ ptr ∷ clk ∷ eval_op_lem ∷ id₀ ∷ v₀.c0 ∷ v₀.c1 ∷ id₁ ∷ v₁.c0 ∷ v₁.c1 ∷ four
+row s-start s-block ctx ptr clk eval-op id₀ v₀ id₁ v₁ four =
+    s-start ∷ s-block ∷ ctx ∷ ptr ∷ clk ∷ eval-op ∷ id₀ ∷ v₀.c0 ∷ v₀.c1 ∷ id₁ ∷ v₁.c0 ∷ v₁.c1 ∷ four
 
 -- "s_start is 1 only on the first READ row"
 abbrev pub s_start_of : ℕ → ℕ
@@ -22,8 +22,8 @@ read_row ctx clk num-eval i ptr id₀ v₀ id₁ v₁ m₀ m₁ =
 
 -- an EVAL row: "id_2, v_2 (two), m_0" at its end; "s_block is 1 on EVAL rows"
 abbrev pub eval_row : ℕ → ℕ → ℕ → ℕ → ℕ → Pair → ℕ → Pair → ℕ → Pair → ℕ → List ℕ
-eval_row ctx clk ptr eval_op_lem id₀ v₀ id₁ v₁ id₂ v₂ m₀ =
-    row 0 1 ctx ptr clk eval_op_lem id₀ v₀ id₁ v₁ (id₂ ∷ v₂.c0 ∷ v₂.c1 ∷ m₀ ∷ [])
+eval_row ctx clk ptr eval-op id₀ v₀ id₁ v₁ id₂ v₂ m₀ =
+    row 0 1 ctx ptr clk eval-op id₀ v₀ id₁ v₁ (id₂ ∷ v₂.c0 ∷ v₂.c1 ∷ m₀ ∷ [])
 
 -- READ row i of a record, by its counts and node cells, from the node whose cells begin at a place: "READ row i takes positions 2i (m_0) and 2i + 1 (m_1)"
 abbrev pub read_row_at : RecordHeader → List ℕ → List ℕ → ℕ → ℕ → List ℕ
