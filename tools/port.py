@@ -1,5 +1,5 @@
 #!/usr/bin/env python3
-"""The project's own part of the port to rattle-kit-13f, beside /opt/rattle/port/port.py.
+"""The project's own part of the port to rattle-kit-13f, beside the kit's port.py.
 
 usage: tools/port.py links   before port.py: each link below crates/ becomes a copy of the file that it names
        tools/port.py names   after port.py: the project's definitions and lemmas take the spelling of today's Rattle:
