@@ -1,6 +1,6 @@
 // The run list.
 ghost use Rattle.std.specs.Prelude.{◌≡◌};
-ghost use Rattle.field.specs.Codes.{code, value_or, place_told};
+ghost use Rattle.refusal.specs.Codes.{code, value_or, place_told};
 ghost use Rattle.runs.specs.Calls.{total_answer, first_row_answer, add_answer, list_after};
 ghost use Rattle.ace_c.specs.Lists.{entry_by, list_of, threes_of};
 

@@ -1,6 +1,6 @@
 // Opening, steps and the result.
 ghost use Rattle.std.specs.Prelude.{◌≡◌};
-ghost use Rattle.field.specs.Codes.{code, value_or, values_or, place_told};
+ghost use Rattle.refusal.specs.Codes.{code, value_or, values_or, place_told};
 ghost use Rattle.trace.specs.Outcome.{lent};
 ghost use Rattle.trace.specs.Open.{open_answer};
 ghost use Rattle.trace.specs.Read.{read_step};

@@ -1,6 +1,6 @@
 // Each answer as a number, a place and what it hands back. A refusal leaves the rest alone.
 ghost use Rattle.std.specs.Prelude.{◌≡◌};
-ghost use Rattle.field.specs.Codes.{code, value_or, values_or, place_told};
+ghost use Rattle.refusal.specs.Codes.{code, value_or, values_or, place_told};
 ghost use Rattle.trace.specs.Open.{open_told};
 ghost use Rattle.trace.specs.Output.{output_told};
 ghost use Rattle.trace.specs.Record.{header_told};

@@ -1,6 +1,6 @@
 // Whole evaluation.
 ghost use Rattle.std.specs.Prelude.{◌≡◌};
-ghost use Rattle.field.specs.Codes.{code, values_or, place_told};
+ghost use Rattle.refusal.specs.Codes.{code, values_or, place_told};
 ghost use Rattle.trace.specs.Outcome.{lent};
 ghost use Rattle.eval_circuit.specs.Evaluated.{eval_answer, eval_buffers};
 

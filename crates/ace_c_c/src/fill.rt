@@ -1,6 +1,6 @@
 // Row fill.
 ghost use Rattle.std.specs.Prelude.{◌≡◌};
-ghost use Rattle.field.specs.Codes.{code, place_told};
+ghost use Rattle.refusal.specs.Codes.{code, place_told};
 ghost use Rattle.trace.specs.Outcome.{lent};
 ghost use Rattle.rows.specs.Fill.{fill_answer, filled_rows, fill_state_answer, state_rows};
 ghost use Rattle.ace_c.specs.States.{state_of, header_by};

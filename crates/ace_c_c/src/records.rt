@@ -1,6 +1,6 @@
 // The bytes of a record: writer and reader.
 ghost use Rattle.std.specs.Prelude.{◌≡◌};
-ghost use Rattle.field.specs.Codes.{code, value_or, values_or, place_told};
+ghost use Rattle.refusal.specs.Codes.{code, value_or, values_or, place_told};
 ghost use Rattle.trace.specs.Outcome.{lent};
 ghost use Rattle.record.specs.Bytes.{write_into_answer, written_into, write_state_answer, written_state};
 ghost use Rattle.record.specs.Reading.{read_from_answer, read_buffers};

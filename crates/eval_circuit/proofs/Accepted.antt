@@ -7,10 +7,10 @@ use Prim.Native.Nat.{ℕ, ◌+◌, ◌-◌, ◌*◌, ◌/◌, ◌%◌, ◌^◌, 
 use native.Mathlib.Omega.{arith}
 use lib.ListN.{length, get_or}
 use borrow.Author.Tests.{eqb-true, le-leb}
-use Rattle.field.specs.Told.{accepted, refused}
+use Rattle.refusal.specs.Told.{accepted, refused}
 use Rattle.field.specs.Field.{p}
 use Rattle.field.specs.Pair.{Pair, pair}
-use Rattle.field.proofs.Tellings.{same_values}
+use Rattle.refusal.proofs.Tellings.{same_values}
 use Rattle.instruction.specs.Decode.{opcode}
 use Rattle.trace.specs.Counts.{most_wires, room}
 use Rattle.trace.specs.Outcome.{Lent}

@@ -9,7 +9,7 @@ use native.Mathlib.Omega.{arith}
 use lib.ListN.{length, get_or, set, drop}
 use lib.Seq.{sets, drop-set-lt, drop-append-add, drop-drop}
 use borrow.Author.Tests.{ltb-true}
-use Rattle.field.specs.Told.{accepted, refused}
+use Rattle.refusal.specs.Told.{accepted, refused}
 use Rattle.field.specs.Field.{p, first_over}
 use Rattle.field.specs.Pair.{Pair, cells}
 use Rattle.field.proofs.Over.{over_later, of_elements_lem}

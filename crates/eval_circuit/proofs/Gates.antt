@@ -7,10 +7,10 @@ use mathlib.Core.Logic.{◌⊎◌, ⊎_elim, inl, inr}
 use Prim.Native.Nat.{ℕ, zero, suc, ◌+◌, ◌≤◌, ◌<◌}
 use native.Mathlib.Omega.{arith}
 use borrow.Author.Tests.{ltb-true, lt-ltb}
-use Rattle.field.specs.Told.{Told, accepted, refused}
+use Rattle.refusal.specs.Told.{Told, accepted, refused}
 use Rattle.field.specs.Field.{p}
 use Rattle.field.proofs.Cases.{below?}
-use Rattle.field.proofs.Tellings.{clash, same_refusal}
+use Rattle.refusal.proofs.Tellings.{clash, same_refusal}
 use Rattle.instruction.specs.Decode.{left_id, right_id, opcode}
 use Rattle.instruction.proofs.Laws.{not_element, not_instruction, instruction}
 use Rattle.trace.specs.Eval.{is_made}

@@ -8,10 +8,10 @@ use Prim.Native.Nat.{ℕ, ◌+◌, ◌/◌, ◌%◌, ◌≤◌}
 use native.Mathlib.Omega.{arith}
 use lib.Dec.{ltb, eqb}
 use lib.ListN.{length}
-use Rattle.field.specs.Told.{Told, accepted, refused}
+use Rattle.refusal.specs.Told.{Told, accepted, refused}
 use Rattle.field.specs.Field.{p, first_over}
 use Rattle.field.proofs.Cases.{below?}
-use Rattle.field.proofs.Tellings.{same_refusal}
+use Rattle.refusal.proofs.Tellings.{same_refusal}
 use Rattle.trace.specs.Counts.{most_wires, room, with_room}
 use Rattle.trace.specs.Outcome.{Lent}
 use Rattle.trace.specs.Output.{is_zero}

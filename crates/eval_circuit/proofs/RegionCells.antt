@@ -9,7 +9,7 @@ use lib.Dec.{ltb}
 use lib.ListN.{length, get_or, drop, length-drop}
 use lib.Seq.{length-take-le, get_or-take, get_or-drop}
 use borrow.Author.Tests.{ltb-false, lt-ltb, le-ltb}
-use Rattle.field.specs.Told.{Told, accepted}
+use Rattle.refusal.specs.Told.{Told, accepted}
 use Rattle.field.specs.Field.{p, first_over}
 use Rattle.field.proofs.Over.{over_below, over_all}
 use Rattle.field.proofs.Cases.{below?}

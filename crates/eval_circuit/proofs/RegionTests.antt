@@ -8,8 +8,8 @@ use Prim.Native.Nat.{ℕ, ◌+◌, ◌%◌, ◌≤◌, ◌<◌}
 use native.Mathlib.Omega.{arith}
 use lib.Dec.{ltb, eqb}
 use borrow.Author.Tests.{lt-ltb, le-ltb, eq-eqb, ne_eqb, ltb-false, eqb-false}
-use Rattle.field.specs.Told.{Told, accepted, refused}
-use Rattle.field.proofs.Tellings.{true_not_false}
+use Rattle.refusal.specs.Told.{Told, accepted, refused}
+use Rattle.refusal.proofs.Tellings.{true_not_false}
 use Rattle.trace.specs.Counts.{most_wires}
 use Rattle.trace.proofs.Choices.{either_holds, not_stopped}
 use Rattle.eval_circuit.specs.Evaluated.{region_cells, of_region}

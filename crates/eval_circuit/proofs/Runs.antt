@@ -8,10 +8,10 @@ use Prim.Native.Nat.{ℕ, ◌+◌, ◌-◌, ◌*◌, ◌/◌, ◌≤◌, ◌<◌
 use native.Mathlib.Omega.{arith}
 use lib.ListN.{get_or, drop}
 use borrow.Author.Tests.{eq-eqb}
-use Rattle.field.specs.Told.{accepted, refused}
+use Rattle.refusal.specs.Told.{accepted, refused}
 use Rattle.field.specs.Field.{p}
 use Rattle.field.specs.Pair.{Pair, pair}
-use Rattle.field.proofs.Tellings.{clash}
+use Rattle.refusal.proofs.Tellings.{clash}
 use Rattle.trace.specs.declared.CircuitEvaluation.{CircuitEvaluation}
 use Rattle.trace.specs.declared.StepAnswer.{StepAnswer}
 use Rattle.trace.specs.declared.StepAnswer.TheVariants.{Done, Refused}

@@ -8,8 +8,8 @@ use Prim.Native.Nat.{ℕ, ◌+◌, ◌*◌, ◌/◌, ◌≤◌, ◌<◌}
 use native.Mathlib.Omega.{arith}
 use lib.Dec.{leb}
 use lib.ListN.{length, get_or, drop}
-use Rattle.field.specs.Told.{Told, accepted, refused}
-use Rattle.field.proofs.Tellings.{clash, same_refusal}
+use Rattle.refusal.specs.Told.{Told, accepted, refused}
+use Rattle.refusal.proofs.Tellings.{clash, same_refusal}
 use Rattle.instruction.specs.Decode.{left_id, right_id, opcode}
 use Rattle.trace.specs.Counts.{node_cells, room, with_room}
 use Rattle.trace.specs.Outcome.{Lent}

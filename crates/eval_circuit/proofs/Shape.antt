@@ -6,7 +6,7 @@ use mathlib.Core.Logic.{◌⊎◌, ⊎_elim, inl, inr}
 use Prim.Native.Nat.{ℕ, zero, suc, ◌+◌, ◌-◌, ◌*◌, ◌≤◌, ◌<◌, min}
 use native.Mathlib.Omega.{arith}
 use lib.ListN.{length, get_or, drop, length-take, length-drop}
-use Rattle.field.specs.Told.{Told, or_else}
+use Rattle.refusal.specs.Told.{Told, or_else}
 use Rattle.field.specs.Field.{p, first_over}
 use Rattle.field.proofs.Cases.{below?}
 use Rattle.field.proofs.Over.{over_here, over_later}

@@ -9,7 +9,7 @@ use native.Mathlib.Omega.{arith}
 use lib.ListN.{length, get_or, set, drop, length-append}
 use lib.Seq.{sets}
 use borrow.Author.Tests.{le-leb}
-use Rattle.field.specs.Told.{accepted}
+use Rattle.refusal.specs.Told.{accepted}
 use Rattle.field.specs.Field.{p, first_over}
 use Rattle.field.specs.Pair.{Pair, pair}
 use Rattle.field.proofs.Over.{over_all, of_elements_lem}

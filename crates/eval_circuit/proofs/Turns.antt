@@ -6,9 +6,9 @@ use mathlib.Core.Logic.{◌⊎◌, ⊎_elim}
 use Prim.Native.Nat.{ℕ, ◌+◌, ◌*◌, ◌≤◌, ◌<◌}
 use native.Mathlib.Omega.{arith}
 use lib.ListN.{get_or}
-use Rattle.field.specs.Told.{accepted, refused}
+use Rattle.refusal.specs.Told.{accepted, refused}
 use Rattle.field.proofs.Cases.{below?}
-use Rattle.field.proofs.Tellings.{clash}
+use Rattle.refusal.proofs.Tellings.{clash}
 use Rattle.trace.specs.declared.CircuitEvaluation.{CircuitEvaluation}
 use Rattle.trace.specs.declared.StepAnswer.{StepAnswer}
 use Rattle.trace.specs.declared.StepAnswer.TheVariants.{Done, Refused}

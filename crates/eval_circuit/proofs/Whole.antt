@@ -9,10 +9,10 @@ use native.Mathlib.Omega.{arith}
 use lib.Dec.{ltb, eqb}
 use lib.ListN.{length, get_or, take, drop, replicate}
 use borrow.Author.Tests.{lt-ltb, le-leb, lt-leb}
-use Rattle.field.specs.Told.{Told, accepted, refused}
+use Rattle.refusal.specs.Told.{Told, accepted, refused}
 use Rattle.field.specs.Field.{p, first_over}
 use Rattle.field.proofs.Over.{over_below}
-use Rattle.field.proofs.Tellings.{clash, same_refusal}
+use Rattle.refusal.proofs.Tellings.{clash, same_refusal}
 use Rattle.trace.specs.declared.CircuitEvaluation.{CircuitEvaluation}
 use Rattle.trace.specs.declared.OpenAnswer.TheVariants as opening
 use Rattle.trace.specs.declared.RecordHeader.{RecordHeader}

@@ -1,7 +1,7 @@
 -- A circuit by its wires' ids: the value of each, which gate is refused first, and how often each is named.
 -- Assumes nothing.
 use Rattle.std.specs.Prelude.{ℕ, zero, suc, ◌+◌, ◌-◌, ◌*◌, cond, List, [], ltb, get_or}
-use Rattle.field.specs.Told.{Told, accepted, refused, or_else}
+use Rattle.refusal.specs.Told.{Told, accepted, refused, or_else}
 use Rattle.field.specs.Pair.{Pair, pair}
 use Rattle.instruction.specs.Decode.{left_id, right_id, opcode, decode_answer}
 use Rattle.trace.specs.Outcome.{value_at}

@@ -1,7 +1,7 @@
 -- Whole evaluation: for every input the answer, and all three lent buffers after it.
 -- Assumes nothing.
 use Rattle.std.specs.Prelude.{ℕ, ◌+◌, ◌-◌, ◌*◌, ◌/◌, ◌%◌, ◌^◌, cond, ◌||◌, List, [], ◌∷◌, ◌++◌, ltb, leb, eqb, length, take, drop, replicate}
-use Rattle.field.specs.Told.{Told, accepted, refused}
+use Rattle.refusal.specs.Told.{Told, accepted, refused}
 use Rattle.field.specs.Lists.{each}
 use Rattle.field.specs.Field.{p, first_over}
 use Rattle.field.specs.Pair.{cells}

@@ -1,7 +1,7 @@
 -- The listing of document 01, worked out from the definitions.
 -- Assumes nothing.
 use Rattle.std.specs.Prelude.{ℕ, ◌-◌, ◌≡◌, refl, List, [], ◌∷◌, replicate}
-use Rattle.field.specs.Told.{accepted}
+use Rattle.refusal.specs.Told.{accepted}
 use Rattle.field.specs.Field.{p, first_over}
 use Rattle.instruction.specs.Decode.{decode_answer}
 use Rattle.field.specs.Answer.{of_elements}

@@ -1,6 +1,6 @@
 // The region of a circuit: "ptr + 2·num_vars + num_eval" cells of memory, tested before any step.
 ghost use Rattle.std.specs.Prelude.{◌≡◌, []};
-ghost use Rattle.field.specs.Told.{accepted};
+ghost use Rattle.refusal.specs.Told.{accepted};
 ghost use Rattle.trace.specs.Record.{tested_told};
 ghost use Rattle.eval_circuit.specs.Evaluated.{cells_counted, of_region};
 

@@ -1,6 +1,6 @@
 // The steps of a circuit in memory, one after the other.
 ghost use Rattle.std.specs.Prelude.{◌≡◌, [], ◌+◌, ◌≤◌, length};
-ghost use Rattle.field.specs.Told.{accepted};
+ghost use Rattle.refusal.specs.Told.{accepted};
 ghost use Rattle.trace.specs.Outcome.{lent, outcome, step_outcome};
 ghost use Rattle.trace.specs.Output.{output_told};
 ghost use Rattle.eval_circuit.specs.Circuit.{gates_answer};

@@ -1,6 +1,5 @@
 pub mod Ring
 pub mod Cases
-pub mod Tellings
 pub mod Halves
 pub mod Remainders
 pub mod Division

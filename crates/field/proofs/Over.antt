@@ -1,13 +1,18 @@
 -- Laws of `first_over` and `of_elements`: what a caller uses of them.
 -- Assumes nothing.
-use Rattle.std.proofs.Common.{◌≡◌, ℕ, zero, suc, ◌+◌, ◌-◌, ◌<◌, ◌≤◌, ◌⊎◌, List, [], ◌∷◌, length, get_or, take, drop, sym, refl, ap, ◌∙◌, ⊎_elim, arith, drop_of_length-le, drop-cons, le-ltb, lt-ltb}
+use Rattle.std.proofs.Common.{◌≡◌, ℕ, zero, suc, ◌+◌, ◌-◌, ◌<◌, ◌≤◌, List, [], ◌∷◌, length, min, get_or, take, drop, Result, sym, refl, ap, ◌∙◌, ⊎_elim, arith, drop_of_length-le, drop-cons, le-ltb, lt-ltb}
+use Rattle.std.proofs.Math.Seq.{take-length}
 use lib.Seq.{take-nil}
-use Rattle.field.specs.Told.{Told, accepted, refused}
+use Rattle.refusal.specs.Told.{Told, accepted, refused, or_else}
+use Rattle.refusal.specs.Refusal.{number_of, place_of, told}
+use Rattle.refusal.specs.declared.Refusal.{Refusal}
+use Rattle.refusal.proofs.Passing.{stops, passes}
+use Rattle.std.specs.Result.{IsErr, IsErrAnd}
 use Rattle.field.specs.Field.{p, first_over}
 use Rattle.field.specs.Answer.{of_elements}
 use Rattle.field.specs.Pair.{pair, Elements}
 use Rattle.field.proofs.Cases.{below?}
-use Rattle.field.proofs.Tellings.{clash}
+use Rattle.refusal.proofs.Tellings.{clash}
 
 pub over_here : (x : ℕ) (xs : List ℕ) → p ≤ x → first_over (x ∷ xs) ≡ 0
 unfolding first_over
@@ -61,21 +66,19 @@ pub of_elements_lem : (xs : List ℕ) (t : Told) → length xs ≤ first_over xs
 unfolding of_elements
 of_elements_lem xs t h = rw (le-ltb (first_over xs) (length xs) h)
 
--- what passed the look is an element
-pub passed : (xs : List ℕ) (r k : ℕ) → r ≡ first_over xs → k < r → get_or xs k 0 < p
-passed xs r k e h = over_below xs k (omega arith)
+-- a look at numbers, and then what comes after
+pub else_elements : (xs : List ℕ) (t : Told) → or_else (of_elements xs (accepted [])) t ≡ of_elements xs t
+else_elements xs t =
+    ⊎_elim
+    (λ l. let r = refused_at xs t (first_over xs) refl l in ap (λ (y : Told). or_else y t) (sym (refused_at xs (accepted []) (first_over xs) refl l)) ∙ r)
+    (λ l. ap (λ (y : Told). or_else y t) (of_elements_lem xs (accepted []) l) ∙ sym (of_elements_lem xs t l))
+    (below? (first_over xs) (length xs))
 
-pub pairs_passed : (a₀ a₁ b₀ b₁ r : ℕ) → r ≡ first_over (a₀ ∷ a₁ ∷ b₀ ∷ b₁ ∷ []) → 4 ≤ r → Elements (pair a₀ a₁) × Elements (pair b₀ b₁)
-pairs_passed a₀ a₁ b₀ b₁ r e h =
-    let s = a₀ ∷ a₁ ∷ b₀ ∷ b₁ ∷ [] in (
-      record { low = passed s r 0 e (omega arith); high = passed s r 1 e (omega arith) },
-      record { low = passed s r 2 e (omega arith); high = passed s r 3 e (omega arith) },
-    )
+pub elements_refused : {T : Type 0} (values : T → List ℕ) (r : Result T Refusal) (e : Refusal) (xs : List ℕ) (t : Told) → IsErr r × IsErrAnd r (λ y. y ≡ e) → refused (number_of e) (place_of e) ≡ of_elements xs (accepted []) → told values r ≡ of_elements xs t
+elements_refused values r e xs t h is = stops values r e _ t h is ∙ else_elements xs t
 
-pub accepted_of : (xs vs ws : List ℕ) (r : ℕ) → r ≡ first_over xs → length xs ≤ r → vs ≡ ws → accepted vs ≡ of_elements xs (accepted ws)
-accepted_of xs vs ws r e h q =
-    let l : length xs ≤ first_over xs = omega arith in
-    ap accepted q ∙ sym (of_elements_lem xs (accepted ws) l)
+pub elements_passed : (xs : List ℕ) (t : Told) → accepted [] ≡ of_elements xs (accepted []) → t ≡ of_elements xs t
+elements_passed xs t is = passes [] _ t is ∙ else_elements xs t
 
 -- numbers of which nothing is refused are elements
 pub elements_of : (xs vs : List ℕ) (t : Told) → of_elements xs t ≡ accepted vs → (k : ℕ) → k < length xs → get_or xs k 0 < p
@@ -84,6 +87,14 @@ elements_of xs vs t e k h =
     (λ l. clash (refused_at xs t (first_over xs) refl l ∙ e))
     (λ l. over_below xs k (omega arith))
     (below? (first_over xs) (length xs))
+
+-- four numbers of which nothing is refused are two pairs of elements
+pub pairs_passed : (a₀ a₁ b₀ b₁ : ℕ) (t : Told) → accepted [] ≡ of_elements (a₀ ∷ a₁ ∷ b₀ ∷ b₁ ∷ []) t → Elements (pair a₀ a₁) × Elements (pair b₀ b₁)
+pairs_passed a₀ a₁ b₀ b₁ t e =
+    let h = elements_of _ _ _ (sym e) in (
+      record { low = h 0 (omega arith); high = h 1 (omega arith) },
+      record { low = h 2 (omega arith); high = h 3 (omega arith) },
+    )
 
 -- a look at cells, one after the other
 part_one : (xs : List ℕ) (at end : ℕ) → at < end → at < length xs → take (end - at) (drop at xs) ≡ get_or xs at 0 ∷ take (end - (at + 1)) (drop (at + 1) xs)
@@ -100,9 +111,16 @@ pub over_next : (xs : List ℕ) (at end : ℕ) → at < end → at < length xs �
 over_next xs at end h k l = rw (part_one xs at end h k) (omega (arith, over_later (get_or xs at 0) (take (end - (at + 1)) (drop (at + 1) xs)) l))
 
 -- it ends at its end, or at the end of the cells
-pub over_end : (xs : List ℕ) (at end : ℕ) → (end ≤ at) ⊎ (length xs ≤ at) → at ≡ at + first_over (take (end - at) (drop at xs))
+pub over_end : (xs : List ℕ) (at end : ℕ) → min end (length xs) ≤ at → at ≡ at + first_over (take (end - at) (drop at xs))
 over_end xs at end h =
     ⊎_elim
+    (λ (l : at < end). let k : length xs ≤ at = omega arith in rw (drop_of_length-le xs {i = at} k, take-nil) (omega (arith, over_none)))
     (λ (l : end ≤ at). let z : end - at ≡ 0 = omega arith in rw z (omega (arith, over_none)))
-    (λ l. rw (drop_of_length-le xs {i = at} l, take-nil) (omega (arith, over_none)))
-    h
+    (below? at end)
+
+-- a look at all of the cells
+pub over_whole : (xs : List ℕ) (r : ℕ) → r ≡ 0 + first_over (take (length xs - 0) xs) → r ≡ first_over xs
+over_whole xs r e =
+    let z : length xs - 0 ≡ length xs = omega arith in
+    let t : take (length xs - 0) xs ≡ xs = rw z (take-length xs) in
+    omega (arith, e, ap first_over t)

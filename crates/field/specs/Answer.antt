@@ -1,22 +1,22 @@
 -- What the public calls answer, for every argument.
 -- Assumes nothing.
-use Rattle.std.specs.Prelude.{ℕ, cond, List, [], ◌∷◌, length, nat_lt, slice_index}
-use Rattle.field.specs.Told.{Told, accepted, refused}
+use Rattle.std.specs.Prelude.{ℕ, cond, List, [], ◌∷◌, Result, length, nat_lt, slice_index}
+use Rattle.refusal.specs.Told.{Told, accepted, refused}
+use Rattle.refusal.specs.Refusal.{told, number_alone}
+use Rattle.refusal.specs.declared.Refusal.{Refusal}
 use Rattle.field.specs.Field.{first_over}
 use Rattle.field.specs.Pair.{Pair, pair, cells}
-use Rattle.field.specs.declared.felt.FeltAnswer.{FeltAnswer}
-use Rattle.field.specs.declared.felt.FeltAnswer.TheVariants as felt
-use Rattle.field.specs.declared.quad.QuadAnswer.{QuadAnswer}
-use Rattle.field.specs.declared.quad.QuadAnswer.TheVariants as quad
+
+-- an array of two cells as a pair
+abbrev pub pair_of : List ℕ → Pair
+pair_of a = pair (slice_index a 0) (slice_index a 1)
 
 -- each case of an answer, by number, place and values
-abbrev pub felt_told : FeltAnswer → Told
-felt_told (felt.Value v) = accepted (v ∷ [])
-felt_told (felt.Refused number place) = refused number place
+abbrev pub felt_told : Result ℕ Refusal → Told
+felt_told = told number_alone
 
-abbrev pub quad_told : QuadAnswer → Told
-quad_told (quad.Value v w) = accepted (v ∷ w ∷ [])
-quad_told (quad.Refused number place) = refused number place
+abbrev pub quad_told : Result (List ℕ) Refusal → Told
+quad_told = told (λ a. a)
 
 -- t where each of the numbers xs is an element; else 7 with the place of the first that is none
 unfoldable pub of_elements : List ℕ → Told → Told
@@ -25,10 +25,6 @@ of_elements xs t = cond (nat_lt (first_over xs) (length xs)) (refused 7 (first_o
 -- of two elements, what f makes of them
 abbrev pub felt_answer : (ℕ → ℕ → ℕ) → ℕ → ℕ → Told
 felt_answer f a b = of_elements (a ∷ b ∷ []) (accepted (f a b ∷ []))
-
--- an array of two cells as a pair
-abbrev pub pair_of : List ℕ → Pair
-pair_of a = pair (slice_index a 0) (slice_index a 1)
 
 -- the cells of two pairs, in the order in which they are handed in
 abbrev pub cells_of : List ℕ → List ℕ → List ℕ

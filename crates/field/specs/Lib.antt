@@ -1,5 +1,3 @@
-pub mod Told
-pub mod Codes
 pub mod Lists
 pub mod Field
 pub mod Pair

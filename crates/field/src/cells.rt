@@ -1,20 +1,34 @@
 // Cells that are to hold elements.
-ghost use Rattle.std.specs.Prelude.{◌≡◌, ◌+◌, ◌-◌, take, drop};
+ghost use Rattle.std.specs.Prelude.{◌≡◌, ◌+◌, ◌-◌, [], take, drop};
+ghost use Rattle.refusal.specs.Told.{accepted};
+ghost use Rattle.refusal.specs.Refusal.{told, nothing};
 ghost use Rattle.field.specs.Field.{first_over};
+ghost use Rattle.field.specs.Answer.{of_elements};
 
 use crate::P;
+use refusal::Refusal;
 
 // The place of the first cell from start on that is p or more; where none before end is, the place
 // where the look ended.
 pub fn first_over(cells: &[u64], start: usize, end: usize) -> usize
     ensures { result ≡ start + first_over (take (end - start) (drop start cells.now)) }
 {
-    let mut at = start;
-    while at < end && at < cells.len() {
+    let stop = end.min(cells.len());
+    for at in start..stop {
         if P <= cells[at] {
             return at;
         }
-        at += 1;
     }
-    at
+    start.max(stop)
+}
+
+// "7 where a number handed in is p or more, giving its place among them, from 0".
+pub fn test_elements(numbers: &[u64]) -> Result<(), Refusal>
+    ensures { told nothing result ≡ of_elements numbers.now (accepted []) }
+{
+    let place = first_over(numbers, 0, numbers.len());
+    if place < numbers.len() {
+        return Err(Refusal::NotElement(place as u64));
+    }
+    Ok(())
 }

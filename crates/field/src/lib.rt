@@ -7,6 +7,3 @@ mod modular;
 pub mod quad;
 
 pub const P: u64 = 18446744069414584321;
-
-// The refusal of a number that is p or more.
-pub const NOT_ELEMENT: u32 = 7;

@@ -5,8 +5,8 @@ use mathlib.Core.Path.{◌≡◌, refl, sym, ap, ◌∙◌}
 use mathlib.Core.Bool.{Bool, true, false}
 use mathlib.Core.List.{List, []}
 use lib.ListN.{get_or}
-use Rattle.field.specs.Told.{Told, accepted, refused}
-use Rattle.field.proofs.Tellings.{clash}
+use Rattle.refusal.specs.Told.{Told, accepted, refused}
+use Rattle.refusal.proofs.Tellings.{clash}
 use Rattle.trace.specs.declared.CircuitEvaluation.{CircuitEvaluation}
 use Rattle.trace.specs.declared.StepAnswer.{StepAnswer}
 use Rattle.trace.specs.declared.StepAnswer.TheVariants as answer

@@ -1,7 +1,7 @@
 -- The calls in place, by the definitions of the calls by value.
 -- Assumes nothing.
 use Rattle.std.specs.Prelude.{ℕ, []}
-use Rattle.field.specs.Told.{accepted}
+use Rattle.refusal.specs.Told.{accepted}
 use Rattle.trace.specs.declared.CircuitEvaluation.{CircuitEvaluation}
 use Rattle.trace.specs.Outcome.{Lent, Outcome, outcome, unless_refused}
 use Rattle.trace.specs.Open.{opened, open_answer}

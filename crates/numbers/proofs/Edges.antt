@@ -3,7 +3,7 @@
 use Prim.Native.Nat.{ℕ, ◌-◌, ◌^◌}
 use mathlib.Core.Path.{◌≡◌, refl}
 use mathlib.Core.List.{List, [], ◌∷◌, map}
-use Rattle.field.specs.Told.{accepted, refused}
+use Rattle.refusal.specs.Told.{accepted, refused}
 use Rattle.numbers.specs.Form.{ill_formed, find_from}
 use Rattle.numbers.specs.Answer.{read_answer}
 

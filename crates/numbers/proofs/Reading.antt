@@ -11,7 +11,7 @@ use native.Mathlib.Omega.{arith}
 use lib.ListN.{length, get_or, drop, drop_of_length-le}
 use lib.Pow.{pow-add, pow_mono}
 use lib.Seq.{drop-cons}
-use Rattle.field.specs.Told.{Told, accepted, refused}
+use Rattle.refusal.specs.Told.{Told, accepted, refused}
 use Rattle.field.proofs.Cases.{below?}
 use Rattle.numbers.specs.Form.{Found, found, cut_off, not_shortest, under, ill_formed, find_from}
 use Rattle.numbers.specs.Answer.{found_at, read_answer}

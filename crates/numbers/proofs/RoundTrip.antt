@@ -9,9 +9,9 @@ use native.Mathlib.Nat.{pow-suc}
 use native.Mathlib.Omega.{arith}
 use lib.ListN.{length, get_or, take, drop, take-append-drop, length-drop}
 use lib.Seq.{sets, sets-eq, slice, drop_at, get_or-drop, take-add, length-take-le}
-use Rattle.field.specs.Told.{accepted}
+use Rattle.refusal.specs.Told.{accepted}
 use Rattle.field.proofs.Cases.{below?}
-use Rattle.field.proofs.Tellings.{clash}
+use Rattle.refusal.proofs.Tellings.{clash}
 use Rattle.numbers.specs.Form.{bytes_in, bytes_of, groups_in, width_of, Found, found, cut_off, not_shortest, under, ill_formed, find_from}
 use Rattle.numbers.specs.Answer.{found_at, read_answer, written}
 use Rattle.numbers.proofs.Groups.{bytes_last, bytes_more, groups_last, groups_more, width_counts, width_some, width_most}

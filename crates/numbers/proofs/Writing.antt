@@ -9,7 +9,7 @@ use native.Mathlib.Omega.{arith}
 use lib.ListN.{length, set, length-set}
 use lib.Seq.{sets, length-sets}
 use borrow.Author.Tests.{le-leb, lt-leb}
-use Rattle.field.specs.Told.{accepted, refused}
+use Rattle.refusal.specs.Told.{accepted, refused}
 use Rattle.field.proofs.Cases.{below?}
 use Rattle.numbers.specs.Form.{bytes_of, width_of}
 use Rattle.numbers.specs.Answer.{write_answer, written}

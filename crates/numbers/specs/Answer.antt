@@ -2,7 +2,7 @@
 -- Assumes nothing.
 use Rattle.std.specs.Prelude.{ℕ, ◌+◌, cond, List, [], ◌∷◌, ltb, leb, length, drop}
 use Rattle.std.proofs.lemmas.List.Edits.{sets}
-use Rattle.field.specs.Told.{Told, accepted, refused}
+use Rattle.refusal.specs.Told.{Told, accepted, refused}
 use Rattle.numbers.specs.Form.{bytes_of, width_of, Found, found, cut_off, not_shortest, find_from}
 use Rattle.numbers.specs.declared.WriteAnswer.{WriteAnswer}
 use Rattle.numbers.specs.declared.WriteAnswer.TheVariants as write

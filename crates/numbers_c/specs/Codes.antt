@@ -1,7 +1,7 @@
 -- What goes where the place is asked, for callers to whom an answer goes in numbers.
 -- Assumes nothing.
 use Rattle.std.specs.Prelude.{ℕ, get_or}
-use Rattle.field.specs.Told.{Told, accepted, refused}
+use Rattle.refusal.specs.Told.{Told, accepted, refused}
 
 -- the place after the number, which stands behind k other values; or the refusal's place
 abbrev pub place_after : ℕ → Told → ℕ

@@ -2,7 +2,7 @@
 #![tactic(auto)]
 
 ghost use Rattle.std.specs.Prelude.{◌≡◌};
-ghost use Rattle.field.specs.Codes.{code, value_or};
+ghost use Rattle.refusal.specs.Codes.{code, value_or};
 ghost use Rattle.numbers.specs.Form.{width_of};
 ghost use Rattle.numbers.specs.Answer.{write_answer, written, read_answer, read_below_answer};
 ghost use Rattle.numbers_c.specs.Codes.{place_after};

@@ -6,8 +6,8 @@ use mathlib.Core.List.{List, ◌++◌, append-nil}
 use native.Mathlib.Omega.{arith}
 use lib.ListN.{length, drop_of_length-le}
 use lib.Seq.{sets}
-use Rattle.field.specs.Told.{Told, refused}
-use Rattle.field.proofs.Tellings.{clash}
+use Rattle.refusal.specs.Told.{Told, refused}
+use Rattle.refusal.proofs.Tellings.{clash}
 use Rattle.record.proofs.Used.{front_set}
 use Rattle.program.specs.Inside.{WhereAccepted}
 

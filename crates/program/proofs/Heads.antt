@@ -6,7 +6,7 @@ use mathlib.Core.List.{List, [], ◌∷◌}
 use native.Mathlib.Omega.{arith}
 use lib.ListN.{length, get_or, set}
 use lib.Seq.{sets}
-use Rattle.field.specs.Told.{accepted, refused}
+use Rattle.refusal.specs.Told.{accepted, refused}
 use Rattle.numbers.specs.Answer.{read_below_answer}
 use Rattle.numbers.proofs.Below.{below_is_read}
 use Rattle.record.specs.Numbers.{number_at, next_at, after, numbers_from, numbers_answer}

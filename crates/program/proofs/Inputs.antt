@@ -9,7 +9,7 @@ use lib.Dec.{ltb, leb}
 use lib.ListN.{length}
 use lib.Seq.{sets}
 use borrow.Author.Tests.{lt-ltb, le-ltb, lt-leb, le-leb, ltb-false}
-use Rattle.field.specs.Told.{Told, accepted, refused, or_else}
+use Rattle.refusal.specs.Told.{Told, accepted, refused, or_else}
 use Rattle.trace.specs.Counts.{most_wires}
 use Rattle.trace.proofs.Choices.{second_fails, not_stopped}
 use Rattle.record.specs.Numbers.{after, numbers_from, numbers_answer}

@@ -8,7 +8,7 @@ use native.Mathlib.Omega.{arith}
 use lib.ListN.{length, get_or, take, length-append}
 use lib.Seq.{sets, length-sets}
 use borrow.Author.Tests.{le-leb, lt-leb}
-use Rattle.field.specs.Told.{Told, accepted, refused}
+use Rattle.refusal.specs.Told.{Told, accepted, refused}
 use Rattle.field.specs.Lists.{each}
 use Rattle.field.proofs.Cases.{below?}
 use Rattle.field.proofs.Each.{each_more}

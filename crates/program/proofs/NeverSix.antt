@@ -8,10 +8,10 @@ use native.Mathlib.Omega.{arith}
 use lib.Dec.{ltb, eqb}
 use lib.ListN.{length, drop}
 use borrow.Author.Tests.{ltb-false, eqb-false, le-leb}
-use Rattle.field.specs.Told.{Told, accepted, refused, or_else}
+use Rattle.refusal.specs.Told.{Told, accepted, refused, or_else}
 use Rattle.field.specs.Field.{p, first_over}
 use Rattle.field.specs.Answer.{of_elements}
-use Rattle.field.proofs.Tellings.{true_not_false}
+use Rattle.refusal.proofs.Tellings.{true_not_false}
 use Rattle.instruction.specs.Decode.{left_id, right_id, opcode, decode_answer}
 use Rattle.numbers.specs.Form.{Found, found, cut_off, not_shortest, find_from}
 use Rattle.numbers.specs.Answer.{found_at, within, read_answer, read_below_answer}

@@ -8,7 +8,7 @@ use mathlib.Core.List.{List}
 use lib.ListN.{length, get_or, take}
 use lib.Seq.{sets, length-sets}
 use borrow.Author.Tests.{le-leb, lt-leb}
-use Rattle.field.specs.Told.{Told, accepted, refused, or_else}
+use Rattle.refusal.specs.Told.{Told, accepted, refused, or_else}
 use Rattle.eval_circuit.specs.Evaluated.{circuit_at, eval_answer}
 use Rattle.record.proofs.Places.{length_from}
 use Rattle.record.proofs.Used.{front_taken}

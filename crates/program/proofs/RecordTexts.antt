@@ -7,7 +7,7 @@ use native.Mathlib.Nat.{zero-add}
 use native.Mathlib.Omega.{arith}
 use lib.ListN.{length, get_or}
 use lib.Seq.{sets, length-sets}
-use Rattle.field.specs.Told.{Told, changed}
+use Rattle.refusal.specs.Told.{Told, changed}
 use Rattle.field.specs.Lists.{each}
 use Rattle.trace.specs.declared.RecordHeader.{RecordHeader}
 use Rattle.trace.specs.Outcome.{Lent}

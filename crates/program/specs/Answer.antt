@@ -2,7 +2,7 @@
 -- Assumes nothing.
 use Rattle.std.specs.Prelude.{ℕ, ◌+◌, ◌/◌, cond, List, [], ◌∷◌, ◌++◌, leb, length, replicate}
 use Rattle.std.proofs.lemmas.List.Edits.{sets}
-use Rattle.field.specs.Told.{Told, accepted, refused, or_else}
+use Rattle.refusal.specs.Told.{Told, accepted, refused, or_else}
 use Rattle.trace.specs.Outcome.{Lent, lent}
 use Rattle.eval_circuit.specs.Circuit.{Circuit, num_wires}
 use Rattle.eval_circuit.specs.Evaluated.{circuit_at, eval_answer}

@@ -1,7 +1,7 @@
 -- What the program reads: "ctx, clk, ptr, num_vars, num_eval, n and n cells as such numbers".
 -- Assumes nothing.
 use Rattle.std.specs.Prelude.{ℕ, ◌+◌, ◌^◌, Bool, cond, ◌&&◌, List, [], ◌∷◌, ltb, leb, length}
-use Rattle.field.specs.Told.{Told, accepted, refused, or_else}
+use Rattle.refusal.specs.Told.{Told, accepted, refused, or_else}
 use Rattle.trace.specs.Counts.{most_wires}
 use Rattle.record.specs.Numbers.{number_at, after, numbers_from, numbers_answer}
 

@@ -2,7 +2,7 @@
 -- Assumes nothing.
 use Rattle.std.specs.Prelude.{◌≡◌, ℕ, ◌≤◌, List, [], length, replicate}
 use Rattle.std.proofs.lemmas.List.Edits.{sets}
-use Rattle.field.specs.Told.{Told, accepted}
+use Rattle.refusal.specs.Told.{Told, accepted}
 use Rattle.trace.specs.declared.RecordHeader.{RecordHeader}
 use Rattle.trace.specs.Outcome.{Lent}
 use Rattle.trace.specs.Record.{record_wires}

@@ -1,7 +1,7 @@
 -- Document 01's listing: the bytes of its input, and all of its text; and inputs that are refused.
 -- Assumes nothing.
 use Rattle.std.specs.Prelude.{ℕ, ◌≡◌, refl, List, [], ◌∷◌, ◌++◌}
-use Rattle.field.specs.Told.{refused}
+use Rattle.refusal.specs.Told.{refused}
 use Rattle.field.specs.Lists.{each}
 use Rattle.field.specs.Field.{first_over}
 use Rattle.field.specs.Answer.{of_elements}

@@ -6,7 +6,7 @@ use mathlib.Core.List.{List, [], ◌∷◌}
 use native.Mathlib.Omega.{arith}
 use lib.Dec.{leb}
 use borrow.Author.Tests.{leb-true, le-leb, lt-leb}
-use Rattle.field.specs.Told.{accepted, refused, or_else}
+use Rattle.refusal.specs.Told.{accepted, refused, or_else}
 use Rattle.field.specs.Field.{p}
 use Rattle.numbers.specs.Answer.{read_answer}
 use Rattle.trace.proofs.Choices.{both, both_hold, first_fails, second_fails, passes}

@@ -5,7 +5,7 @@ use mathlib.Core.Path.{◌≡◌, refl, sym, ap, ◌∙◌}
 use mathlib.Core.List.{List, [], ◌∷◌}
 use native.Mathlib.Omega.{arith}
 use lib.ListN.{length}
-use Rattle.field.specs.Told.{Told, accepted, refused, or_else}
+use Rattle.refusal.specs.Told.{Told, accepted, refused, or_else}
 use Rattle.numbers.specs.Answer.{read_below_answer}
 use Rattle.numbers.proofs.Below.{below_accepted, below_is_read}
 use Rattle.record.specs.Numbers.{next_at, after, numbers_from, numbers_answer}

@@ -7,8 +7,8 @@ use native.Mathlib.Nat.{zero-add, suc-add}
 use lib.Dec.{ltb}
 use lib.ListN.{length, drop}
 use borrow.Author.Tests.{ltb-true}
-use Rattle.field.specs.Told.{accepted, refused}
-use Rattle.field.proofs.Tellings.{clash}
+use Rattle.refusal.specs.Told.{accepted, refused}
+use Rattle.refusal.proofs.Tellings.{clash}
 use Rattle.numbers.specs.Form.{Found, found, cut_off, not_shortest, find_from}
 use Rattle.numbers.specs.Answer.{found_at, within, read_answer, read_below_answer}
 use Rattle.trace.proofs.Choices.{passes}

@@ -7,9 +7,9 @@ use native.Mathlib.Omega.{arith}
 use lib.ListN.{length, get_or, take, drop}
 use lib.Seq.{sets, length-sets}
 use Rattle.field.specs.Lists.{each}
-use Rattle.field.specs.Told.{accepted, refused}
+use Rattle.refusal.specs.Told.{accepted, refused}
 use Rattle.field.proofs.Each.{each_none}
-use Rattle.field.proofs.Tellings.{clash}
+use Rattle.refusal.proofs.Tellings.{clash}
 use Rattle.trace.proofs.Stores.{sets_append}
 use Rattle.numbers.specs.Form.{bytes_of, width_of}
 use Rattle.numbers.specs.Answer.{write_answer}

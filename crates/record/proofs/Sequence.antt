@@ -6,7 +6,7 @@ use mathlib.Core.List.{List, [], ◌∷◌, ◌++◌, append_assoc, append-nil}
 use native.Mathlib.Omega.{arith}
 use lib.ListN.{length, take, length-append, take-append-drop}
 use lib.Seq.{take-take}
-use Rattle.field.specs.Told.{accepted}
+use Rattle.refusal.specs.Told.{accepted}
 use Rattle.numbers.specs.Form.{bytes_of, width_of}
 use Rattle.numbers.specs.Answer.{read_answer}
 use Rattle.numbers.proofs.Groups.{width_counts}

@@ -5,7 +5,7 @@ use mathlib.Core.Path.{◌≡◌, sym, ap, subst}
 use mathlib.Core.List.{List}
 use native.Mathlib.Omega.{arith}
 use lib.ListN.{length}
-use Rattle.field.specs.Told.{Told, accepted, refused}
+use Rattle.refusal.specs.Told.{Told, accepted, refused}
 use Rattle.trace.specs.Outcome.{Lent}
 use Rattle.record.specs.Reading.{wires_in, wires_at, fields_answer, header_in, read_from_answer, buffers_read, read_buffers}
 use Rattle.record.specs.Inside.{Wires, Found}

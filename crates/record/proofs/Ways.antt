@@ -3,8 +3,8 @@
 use Prim.Native.Nat.{ℕ}
 use mathlib.Core.Path.{◌≡◌, refl, sym, ap, ◌∙◌}
 use mathlib.Core.List.{List, [], ◌∷◌}
-use Rattle.field.specs.Told.{Told, accepted, refused, or_else}
-use Rattle.field.proofs.Tellings.{clash}
+use Rattle.refusal.specs.Told.{Told, accepted, refused, or_else}
+use Rattle.refusal.proofs.Tellings.{clash}
 use Rattle.numbers.specs.Answer.{read_told}
 use Rattle.numbers.specs.declared.ReadAnswer.{ReadAnswer}
 

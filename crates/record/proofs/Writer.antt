@@ -9,10 +9,10 @@ use lib.Dec.{leb}
 use lib.ListN.{length, get_or, take, drop}
 use lib.Seq.{get_or-take, length-take-le}
 use borrow.Author.Tests.{leb-true, lt-ltb, le-leb}
-use Rattle.field.specs.Told.{accepted}
+use Rattle.refusal.specs.Told.{accepted}
 use Rattle.field.specs.Field.{p, first_over}
 use Rattle.field.proofs.Over.{over_all}
-use Rattle.field.proofs.Tellings.{same_values}
+use Rattle.refusal.proofs.Tellings.{same_values}
 use Rattle.trace.specs.declared.RecordHeader.{RecordHeader}
 use Rattle.trace.specs.Outcome.{Lent}
 use Rattle.trace.specs.Record.{record_wires, record_cells, elements, in_field}

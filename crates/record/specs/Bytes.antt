@@ -2,7 +2,7 @@
 -- Assumes nothing.
 use Rattle.std.specs.Prelude.{ℕ, ◌+◌, ◌*◌, cond, List, [], ◌∷◌, ◌++◌, leb, length, get_or, take, drop}
 use Rattle.std.proofs.lemmas.List.Edits.{sets}
-use Rattle.field.specs.Told.{Told, accepted, refused, changed}
+use Rattle.refusal.specs.Told.{Told, accepted, refused, changed}
 use Rattle.field.specs.Lists.{each}
 use Rattle.numbers.specs.Form.{bytes_of}
 use Rattle.trace.specs.declared.CircuitEvaluation.{CircuitEvaluation}

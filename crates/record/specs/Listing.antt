@@ -1,7 +1,7 @@
 -- The record of document 01's listing, worked out from the definitions: its bytes, and what reading finds in them.
 -- Assumes nothing.
 use Rattle.std.specs.Prelude.{ℕ, ◌-◌, ◌≡◌, refl, List, [], ◌∷◌, replicate}
-use Rattle.field.specs.Told.{accepted, refused}
+use Rattle.refusal.specs.Told.{accepted, refused}
 use Rattle.field.specs.Lists.{each}
 use Rattle.field.specs.Field.{p, first_over}
 use Rattle.numbers.specs.Form.{bytes_of, bytes_in, ill_formed, find_from}

@@ -1,7 +1,7 @@
 -- The numbers that stand in bytes, one after the other.
 -- Assumes nothing.
 use Rattle.std.specs.Prelude.{ℕ, zero, suc, List, [], ◌∷◌}
-use Rattle.field.specs.Told.{Told, accepted, refused, or_else}
+use Rattle.refusal.specs.Told.{Told, accepted, refused, or_else}
 use Rattle.numbers.specs.Answer.{read_answer, read_below_answer}
 
 -- the number that an answer gives, and the place after it; 0 and the number's own place where it gives none

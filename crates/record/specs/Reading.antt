@@ -2,7 +2,7 @@
 -- Assumes nothing.
 use Rattle.std.specs.Prelude.{ℕ, zero, suc, ◌+◌, ◌*◌, ◌^◌, Bool, cond, ◌&&◌, List, [], ◌∷◌, ◌++◌, ltb, leb, eqb, length}
 use Rattle.std.proofs.lemmas.List.Edits.{sets}
-use Rattle.field.specs.Told.{Told, accepted, refused, or_else}
+use Rattle.refusal.specs.Told.{Told, accepted, refused, or_else}
 use Rattle.field.specs.Field.{p}
 use Rattle.numbers.specs.Answer.{read_answer, read_below_answer}
 use Rattle.trace.specs.Counts.{wires}

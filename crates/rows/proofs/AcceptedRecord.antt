@@ -8,7 +8,7 @@ use native.Mathlib.Omega.{arith}
 use lib.ListN.{length, get_or, take}
 use lib.Seq.{take_at}
 use borrow.Author.Tests.{le-leb, lt-ltb}
-use Rattle.field.specs.Told.{Told, accepted}
+use Rattle.refusal.specs.Told.{Told, accepted}
 use Rattle.field.specs.Lists.{each}
 use Rattle.field.specs.Field.{p, first_over}
 use Rattle.field.specs.Pair.{Pair, Elements}

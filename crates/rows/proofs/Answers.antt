@@ -1,7 +1,7 @@
 -- What the public contracts determine: an answer is known from what it tells.
 -- Assumes nothing.
 use mathlib.Core.Path.{◌≡◌, refl, sym, ap, ◌∙◌}
-use Rattle.field.specs.Told.{Told, accepted, refused}
+use Rattle.refusal.specs.Told.{Told, accepted, refused}
 use Rattle.rows.specs.declared.FillAnswer.{FillAnswer}
 use Rattle.rows.specs.declared.FillAnswer.TheVariants.{Filled, Refused}
 use Rattle.rows.specs.Fill.{fill_told}

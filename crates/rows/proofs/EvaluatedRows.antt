@@ -7,11 +7,11 @@ use Prim.Native.Nat.{ℕ, ◌+◌, ◌*◌, ◌/◌, ◌≤◌, ◌<◌}
 use native.Mathlib.Omega.{arith}
 use lib.ListN.{length, get_or}
 use lib.Seq.{sets, length-sets}
-use Rattle.field.specs.Told.{Told, accepted, refused, changed}
+use Rattle.refusal.specs.Told.{Told, accepted, refused, changed}
 use Rattle.field.specs.Pair.{Pair}
 use Rattle.field.proofs.Cases.{below?}
 use Rattle.field.proofs.Each.{each_equal}
-use Rattle.field.proofs.Tellings.{clash}
+use Rattle.refusal.proofs.Tellings.{clash}
 use Rattle.trace.specs.declared.RecordHeader.{RecordHeader}
 use Rattle.trace.specs.Outcome.{Lent}
 use Rattle.trace.specs.Read.{read_node}

@@ -8,7 +8,7 @@ use native.Mathlib.Omega.{arith}
 use borrow.Author.Tests.{le-leb, lt-leb}
 use lib.ListN.{length}
 use lib.Seq.{sets}
-use Rattle.field.specs.Told.{Told, accepted, refused, changed}
+use Rattle.refusal.specs.Told.{Told, accepted, refused, changed}
 use Rattle.field.specs.Lists.{each}
 use Rattle.field.proofs.Each.{each_more, each-length}
 use Rattle.trace.specs.declared.CircuitEvaluation.{CircuitEvaluation}

@@ -7,7 +7,7 @@ use mathlib.Core.Logic.{⊎_elim}
 use Prim.Native.Nat.{ℕ, ◌+◌, ◌*◌, ◌/◌, ◌≤◌, ◌<◌}
 use lib.Dec.{leb}
 use lib.ListN.{length, get_or}
-use Rattle.field.specs.Told.{accepted}
+use Rattle.refusal.specs.Told.{accepted}
 use Rattle.field.proofs.Cases.{below?}
 use Rattle.instruction.specs.Decode.{left_id, right_id, opcode}
 use Rattle.trace.specs.declared.RecordHeader.{RecordHeader}

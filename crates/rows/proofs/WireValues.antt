@@ -11,7 +11,7 @@ use lib.ListN.{length, get_or, get_or-eq_default}
 use borrow.Author.Tests.{le-leb}
 use Rattle.field.specs.Pair.{Pair}
 use Rattle.field.proofs.Cases.{below?}
-use Rattle.field.proofs.Tellings.{true_not_false}
+use Rattle.refusal.proofs.Tellings.{true_not_false}
 use Rattle.rows.specs.Rows.{row}
 use Rattle.rows.specs.ByWire.{is_wire_value}
 

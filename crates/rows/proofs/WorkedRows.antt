@@ -4,7 +4,7 @@ use Prim.Native.Nat.{ℕ, ◌-◌}
 use mathlib.Core.Path.{◌≡◌, refl, ◌∙◌}
 use mathlib.Core.List.{List, [], ◌∷◌}
 use lib.ListN.{replicate}
-use Rattle.field.specs.Told.{accepted}
+use Rattle.refusal.specs.Told.{accepted}
 use Rattle.field.specs.Lists.{each}
 use Rattle.field.specs.Field.{p, first_over}
 use Rattle.field.specs.Answer.{of_elements}

@@ -2,7 +2,7 @@
 -- Assumes nothing.
 use Rattle.std.specs.Prelude.{ℕ, ◌+◌, ◌*◌, cond, List, [], leb, length}
 use Rattle.std.proofs.lemmas.List.Edits.{sets}
-use Rattle.field.specs.Told.{Told, accepted, refused, changed}
+use Rattle.refusal.specs.Told.{Told, accepted, refused, changed}
 use Rattle.trace.specs.declared.CircuitEvaluation.{CircuitEvaluation}
 use Rattle.trace.specs.declared.RecordHeader.{RecordHeader}
 use Rattle.trace.specs.Outcome.{Lent}

@@ -1,7 +1,7 @@
 -- The rows of document 01's listing, worked out from the definitions.
 -- Assumes nothing.
 use Rattle.std.specs.Prelude.{ℕ, ◌-◌, ◌≡◌, refl, List, [], ◌∷◌, ◌++◌, replicate}
-use Rattle.field.specs.Told.{refused}
+use Rattle.refusal.specs.Told.{refused}
 use Rattle.field.specs.Lists.{each}
 use Rattle.field.specs.Field.{p, first_over}
 use Rattle.field.specs.Answer.{of_elements}

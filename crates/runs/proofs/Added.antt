@@ -10,7 +10,7 @@ use lib.Dec.{ltb}
 use lib.ListN.{length, get_or, drop, length-append, length-drop}
 use lib.Seq.{take-append_seam, get_or-append-add, get_or-drop}
 use borrow.Author.Tests.{ltb-true}
-use Rattle.field.specs.Told.{Told, accepted, refused}
+use Rattle.refusal.specs.Told.{Told, accepted, refused}
 use Rattle.trace.specs.Counts.{most_wires}
 use Rattle.trace.specs.State.{is_accepted}
 use Rattle.trace.proofs.Choices.{passes, either}

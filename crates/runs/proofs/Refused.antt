@@ -8,7 +8,7 @@ use Prim.Native.Nat.{ℕ, ◌<◌}
 use native.Mathlib.Omega.{arith}
 use lib.Dec.{ltb, eqb}
 use borrow.Author.Tests.{lt-ltb, ltb-false}
-use Rattle.field.specs.Told.{Told, accepted, refused}
+use Rattle.refusal.specs.Told.{Told, accepted, refused}
 use Rattle.trace.specs.Counts.{most_wires, wires, of_counts}
 use Rattle.trace.specs.State.{in_turn}
 use Rattle.trace.proofs.Tests.{told_accepted, counts_of, counts_pass}

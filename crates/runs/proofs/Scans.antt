@@ -10,7 +10,7 @@ use lib.Dec.{leb}
 use lib.ListN.{length, get_or, set, take, drop}
 use lib.Seq.{slice-cons, slice_empty, take-suc}
 use borrow.Author.Tests.{lt-leb, le-leb}
-use Rattle.field.specs.Told.{accepted}
+use Rattle.refusal.specs.Told.{accepted}
 use Rattle.trace.specs.declared.Tested.{Tested}
 use Rattle.trace.specs.declared.Tested.TheVariants.{Passed, Refused}
 use Rattle.trace.specs.Counts.{most_wires, of_counts}

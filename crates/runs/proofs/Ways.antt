@@ -9,7 +9,7 @@ use native.Mathlib.Omega.{arith}
 use lib.Dec.{ltb, eqb}
 use lib.ListN.{length, take}
 use borrow.Author.Tests.{lt-ltb, le-ltb}
-use Rattle.field.specs.Told.{Told, accepted, refused, or_else}
+use Rattle.refusal.specs.Told.{Told, accepted, refused, or_else}
 use Rattle.trace.specs.Counts.{most_wires, wires, of_counts}
 use Rattle.trace.proofs.Choices.{either_holds, stopped_else}
 use Rattle.runs.specs.declared.Entry.{Entry}

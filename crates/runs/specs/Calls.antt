@@ -1,7 +1,7 @@
 -- The run list's calls: for every list and every argument the answer, and the whole list after it.
 -- Assumes nothing.
 use Rattle.std.specs.Prelude.{ℕ, Bool, cond, ◌&&◌, ◌||◌, List, [], ◌∷◌, ◌++◌, ltb, leb, length, take, drop}
-use Rattle.field.specs.Told.{Told, accepted, refused}
+use Rattle.refusal.specs.Told.{Told, accepted, refused}
 use Rattle.trace.specs.Counts.{most_wires, of_counts}
 use Rattle.trace.specs.State.{in_turn}
 use Rattle.runs.specs.declared.Entry.{Entry}

@@ -1,7 +1,7 @@
 -- Runs by clock, ascending: the entries of a run list that are in use.
 -- Assumes nothing.
 use Rattle.std.specs.Prelude.{ℕ, suc, ◌+◌, Bool, true, false, cond, ◌&&◌, ◌||◌, List, [], ◌∷◌, ltb, leb, eqb}
-use Rattle.field.specs.Told.{accepted}
+use Rattle.refusal.specs.Told.{accepted}
 use Rattle.trace.specs.Counts.{most_wires, of_counts}
 use Rattle.trace.specs.State.{is_accepted}
 use Rattle.runs.specs.declared.Entry.{Entry}

@@ -2,7 +2,7 @@
 -- Assumes nothing.
 use Rattle.std.specs.Prelude.{ℕ, ◌-◌, ◌≡◌, refl, List, [], ◌∷◌, map, set, replicate}
 use Prim.Native.String.{String}
-use Rattle.field.specs.Told.{Told, accepted, refused}
+use Rattle.refusal.specs.Told.{Told, accepted, refused}
 use Rattle.field.specs.Field.{p, first_over}
 use Rattle.field.specs.Pair.{mul_pair, sub_pair}
 use Rattle.field.specs.Answer.{of_elements, quad_answer}

@@ -8,11 +8,11 @@ use Prim.Native.Nat.{ℕ, ◌+◌, ◌-◌, ◌*◌, ◌^◌, ◌<◌}
 use native.Mathlib.Omega.{arith}
 use borrow.Author.Tests.{ltb-true}
 use lib.ListN.{length, get_or}
-use Rattle.field.specs.Told.{Told, accepted, refused}
+use Rattle.refusal.specs.Told.{Told, accepted, refused}
 use Rattle.field.specs.Field.{p}
 use Rattle.field.specs.Answer.{pair_of}
 use Rattle.field.proofs.Over.{elements_of}
-use Rattle.field.proofs.Tellings.{clash}
+use Rattle.refusal.proofs.Tellings.{clash}
 use Rattle.instruction.specs.Decode.{left_id, right_id, opcode, decode_answer}
 use Rattle.instruction.proofs.Laws.{decodes_small}
 use Rattle.trace.specs.declared.CircuitEvaluation.{CircuitEvaluation}

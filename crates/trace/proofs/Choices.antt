@@ -5,8 +5,8 @@ use mathlib.Core.Bool.{Bool, true, false, cond, ◌&&◌, ◌||◌}
 use mathlib.Core.List.{List}
 use mathlib.Core.Logic.{◌⊎◌, ⊎_elim, inl, inr}
 use Prim.Native.Nat.{ℕ}
-use Rattle.field.specs.Told.{Told, accepted, refused, or_else}
-use Rattle.field.proofs.Tellings.{clash, true_not_false}
+use Rattle.refusal.specs.Told.{Told, accepted, refused, or_else}
+use Rattle.refusal.proofs.Tellings.{clash, true_not_false}
 
 pub both : (a b : Bool) → (a && b) ≡ true → (a ≡ true) × (b ≡ true)
 both true b e = (refl, e)

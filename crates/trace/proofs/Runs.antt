@@ -5,7 +5,7 @@ use mathlib.Core.Bool.{Bool, true, false, cond}
 use mathlib.Core.List.{List, [], ◌∷◌}
 use mathlib.Core.Logic.{⊎_elim}
 use Prim.Native.Nat.{ℕ}
-use Rattle.field.specs.Told.{accepted, refused}
+use Rattle.refusal.specs.Told.{accepted, refused}
 use Rattle.field.specs.Answer.{pair_of}
 use Rattle.instruction.specs.Decode.{left_id, right_id, opcode}
 use Rattle.trace.specs.Outcome.{Outcome, outcome}

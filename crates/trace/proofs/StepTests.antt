@@ -7,10 +7,10 @@ use Prim.Native.Nat.{ℕ, ◌+◌, ◌-◌, ◌*◌, ◌^◌, ◌≤◌, ◌<◌
 use lib.Dec.{ltb, eqb}
 use lib.ListN.{get_or}
 use borrow.Author.Tests.{lt-ltb, le-ltb, eq-eqb, ne_eqb}
-use Rattle.field.specs.Told.{Told, accepted, refused}
+use Rattle.refusal.specs.Told.{Told, accepted, refused}
 use Rattle.field.specs.Field.{p}
 use Rattle.field.specs.Answer.{of_elements}
-use Rattle.field.proofs.Tellings.{clash}
+use Rattle.refusal.proofs.Tellings.{clash}
 use Rattle.trace.specs.declared.CircuitEvaluation.{CircuitEvaluation}
 use Rattle.trace.specs.Counts.{most_wires, wires, of_counts}
 use Rattle.trace.specs.State.{wires_of, made_of, next_id, sound, read_turn, eval_turn}

@@ -8,9 +8,9 @@ use Prim.Native.Nat.{ℕ, ◌-◌, ◌*◌, ◌≤◌, ◌<◌}
 use native.Mathlib.Omega.{arith}
 use lib.Dec.{ltb, leb, eqb}
 use borrow.Author.Tests.{ltb-true, leb-true, eqb-true, ltb-false, eqb-false, lt-ltb, le-ltb, le-leb, lt-leb, eq-eqb, ne_eqb}
-use Rattle.field.specs.Told.{Told, accepted, refused}
+use Rattle.refusal.specs.Told.{Told, accepted, refused}
 use Rattle.field.proofs.Cases.{below?}
-use Rattle.field.proofs.Tellings.{true_not_false}
+use Rattle.refusal.proofs.Tellings.{true_not_false}
 use Rattle.trace.specs.declared.CircuitEvaluation.{CircuitEvaluation}
 use Rattle.trace.specs.Counts.{most_wires, wires, of_counts, node_cells, room}
 use Rattle.trace.specs.State.{wires_of, made_of, next_id, is_accepted, sound, read_turn, eval_turn}

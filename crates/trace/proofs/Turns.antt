@@ -9,12 +9,12 @@ use native.Mathlib.Omega.{arith}
 use lib.Dec.{ltb, eqb}
 use borrow.Author.Tests.{lt-ltb}
 use lib.ListN.{length, get_or}
-use Rattle.field.specs.Told.{Told, accepted, refused}
+use Rattle.refusal.specs.Told.{Told, accepted, refused}
 use Rattle.field.specs.Field.{p, first_over}
 use Rattle.field.specs.Pair.{cells}
 use Rattle.field.specs.Answer.{of_elements}
 use Rattle.field.proofs.Cases.{below?}
-use Rattle.field.proofs.Tellings.{clash}
+use Rattle.refusal.proofs.Tellings.{clash}
 use Rattle.instruction.specs.Decode.{left_id, right_id, opcode, decode_answer}
 use Rattle.trace.specs.declared.CircuitEvaluation.{CircuitEvaluation}
 use Rattle.trace.specs.State.{wires_of, made_of, sound, read_turn, eval_turn}

@@ -5,7 +5,7 @@ use mathlib.Core.List.{List, ◌∷◌}
 use Prim.Native.Nat.{ℕ, ◌+◌, ◌-◌, ◌*◌, ◌<◌}
 use native.Mathlib.Omega.{arith}
 use lib.Seq.{sets, length-sets}
-use Rattle.field.specs.Told.{accepted}
+use Rattle.refusal.specs.Told.{accepted}
 use Rattle.field.specs.Pair.{cells}
 use Rattle.field.specs.Answer.{pair_of}
 use Rattle.instruction.specs.Decode.{left_id, right_id, opcode}

@@ -9,12 +9,12 @@ use native.Mathlib.Omega.{arith}
 use lib.Dec.{ltb}
 use lib.ListN.{length, get_or}
 use borrow.Author.Tests.{ltb-true}
-use Rattle.field.specs.Told.{accepted, refused}
+use Rattle.refusal.specs.Told.{accepted, refused}
 use Rattle.field.specs.Field.{p, sub_f}
 use Rattle.field.specs.Pair.{Pair, pair, Elements}
 use Rattle.field.specs.Answer.{pair_of}
 use Rattle.field.proofs.Cases.{below?}
-use Rattle.field.proofs.Tellings.{clash}
+use Rattle.refusal.proofs.Tellings.{clash}
 use Rattle.field.proofs.Over.{elements_of}
 use Rattle.instruction.specs.Decode.{left_id, right_id, opcode, decode_answer}
 use Rattle.instruction.proofs.Laws.{not_instruction, instruction}

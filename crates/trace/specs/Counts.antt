@@ -1,7 +1,7 @@
 -- A circuit's counts, and the room that its wires and nodes take.
 -- Assumes nothing.
 use Rattle.std.specs.Prelude.{ℕ, ◌+◌, ◌*◌, Bool, cond, ◌&&◌, ltb, leb, eqb}
-use Rattle.field.specs.Told.{Told, refused}
+use Rattle.refusal.specs.Told.{Told, refused}
 
 abbrev pub most_wires : ℕ
 most_wires = 32768

@@ -1,7 +1,7 @@
 -- An EVAL step: a gate's wire from the wires of its two operands.
 -- Assumes nothing.
 use Rattle.std.specs.Prelude.{ℕ, zero, suc, ◌+◌, ◌-◌, ◌*◌, ◌^◌, Bool, cond, ◌&&◌, List, [], ◌∷◌, ltb, get_or, set}
-use Rattle.field.specs.Told.{Told, accepted, refused}
+use Rattle.refusal.specs.Told.{Told, accepted, refused}
 use Rattle.field.specs.Field.{p, sub_f}
 use Rattle.field.specs.Pair.{Pair, cells, add_pair, sub_pair, mul_pair}
 use Rattle.field.specs.Answer.{of_elements}

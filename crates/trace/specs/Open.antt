@@ -1,7 +1,7 @@
 -- Opening: "takes ctx, clk, num_read and num_eval (u32) and refuses" 1, 2, 3 and 6, "changing nothing".
 -- Assumes nothing.
 use Rattle.std.specs.Prelude.{ℕ, List, [], ◌∷◌}
-use Rattle.field.specs.Told.{Told, accepted, refused}
+use Rattle.refusal.specs.Told.{Told, accepted, refused}
 use Rattle.trace.specs.declared.CircuitEvaluation.{CircuitEvaluation}
 use Rattle.trace.specs.declared.OpenAnswer.{OpenAnswer}
 use Rattle.trace.specs.declared.OpenAnswer.TheVariants.{Opened, Refused}

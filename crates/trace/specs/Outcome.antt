@@ -2,7 +2,7 @@
 -- Assumes nothing.
 use Rattle.std.specs.Prelude.{ℕ, ◌+◌, ◌*◌, Bool, List, [], length, get_or, set}
 use Rattle.std.proofs.lemmas.List.Edits.{sets}
-use Rattle.field.specs.Told.{Told, accepted, refused}
+use Rattle.refusal.specs.Told.{Told, accepted, refused}
 use Rattle.field.specs.Pair.{Pair, pair, cells}
 use Rattle.trace.specs.Counts.{room}
 use Rattle.trace.specs.declared.CircuitEvaluation.{CircuitEvaluation}

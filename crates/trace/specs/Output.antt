@@ -1,7 +1,7 @@
 -- The result of an evaluation: "13, 6, 11, 12, changing nothing".
 -- Assumes nothing.
 use Rattle.std.specs.Prelude.{ℕ, ◌-◌, Bool, cond, ◌&&◌, List, [], ◌∷◌, eqb}
-use Rattle.field.specs.Told.{Told, accepted, refused}
+use Rattle.refusal.specs.Told.{Told, accepted, refused}
 use Rattle.field.specs.Pair.{Pair}
 use Rattle.trace.specs.declared.CircuitEvaluation.{CircuitEvaluation}
 use Rattle.trace.specs.declared.RecordHeader.{RecordHeader}

@@ -1,7 +1,7 @@
 -- A READ step: two wires from the two pairs of a word.
 -- Assumes nothing.
 use Rattle.std.specs.Prelude.{ℕ, ◌+◌, ◌-◌, Bool, List, [], ◌∷◌, get_or}
-use Rattle.field.specs.Told.{Told, accepted}
+use Rattle.refusal.specs.Told.{Told, accepted}
 use Rattle.field.specs.Field.{sub_f}
 use Rattle.field.specs.Pair.{Pair}
 use Rattle.field.specs.Answer.{of_elements, pair_of}

@@ -1,6 +1,6 @@
 // The counts of a circuit.
 ghost use Rattle.std.specs.Prelude.{◌≡◌, []};
-ghost use Rattle.field.specs.Told.{accepted};
+ghost use Rattle.refusal.specs.Told.{accepted};
 ghost use Rattle.trace.specs.Counts.{most_wires, of_counts};
 ghost use Rattle.trace.specs.Record.{tested_told};
 

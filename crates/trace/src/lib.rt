@@ -10,7 +10,7 @@ mod steps;
 mod wire_bus;
 
 ghost use Rattle.std.specs.Prelude.{◌≡◌, [], length};
-ghost use Rattle.field.specs.Told.{accepted};
+ghost use Rattle.refusal.specs.Told.{accepted};
 ghost use Rattle.trace.specs.Outcome.{lent, step_outcome};
 ghost use Rattle.trace.specs.Open.{open_told, open_answer};
 ghost use Rattle.trace.specs.Read.{read_step};

@@ -1,6 +1,6 @@
 // What a state and the lent buffers are tested for before a step.
 ghost use Rattle.std.specs.Prelude.{◌≡◌, [], ◌∷◌, ◌&&◌, ◌||◌, eqb, leb, ◌≤◌, ◌<◌};
-ghost use Rattle.field.specs.Told.{accepted};
+ghost use Rattle.refusal.specs.Told.{accepted};
 ghost use Rattle.field.specs.Field.{p, first_over};
 ghost use Rattle.field.specs.Answer.{of_elements};
 ghost use Rattle.trace.specs.Counts.{most_wires, room};

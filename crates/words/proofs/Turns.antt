@@ -10,7 +10,7 @@ use lib.Dec.{ltb, leb}
 use lib.ListN.{length, take, drop}
 use borrow.Author.Tests.{le-leb, lt-leb, leb-true}
 use Rattle.field.proofs.Cases.{below?}
-use Rattle.field.proofs.Tellings.{true_not_false}
+use Rattle.refusal.proofs.Tellings.{true_not_false}
 use Rattle.numbers.specs.Form.{width_of}
 use Rattle.words.specs.Text.{digits, value_of, words_of, numbers_of}
 use Rattle.words.specs.Answer.{answer_from}

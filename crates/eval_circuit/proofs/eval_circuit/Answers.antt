@@ -8,7 +8,7 @@ use native.Mathlib.Omega.{arith}
 use lib.ListN.{length}
 use borrow.Author.Rules.{rules}
 use Rattle.field.specs.Field.{first_over}
-use Rattle.field.specs.Told.{accepted}
+use Rattle.refusal.specs.Told.{accepted}
 use Rattle.trace.specs.Record.{tested_told}
 use Rattle.trace.specs.Open.{opened, open_told}
 use Rattle.trace.specs.Outcome.{Lent, lent}

@@ -1,7 +1,7 @@
 -- `record::read_from` meets its contract.
 -- Assumes nothing.
 use mathlib.Core.Path.{ap, ◌∙◌}
-use Rattle.field.specs.Told.{accepted}
+use Rattle.refusal.specs.Told.{accepted}
 use Rattle.record.proofs.Ways.{heard}
 use Rattle.record.proofs.Standing.{stands, refusal_answered, header-answered, leaves}
 use Rattle.record.proofs.read_from.Goals as goal

@@ -2,7 +2,7 @@
 -- Assumes nothing.
 use mathlib.Core.Path.{sym, ap, ap₂, ◌∙◌}
 use native.Mathlib.Omega.{arith}
-use Rattle.field.specs.Told.{refused}
+use Rattle.refusal.specs.Told.{refused}
 use Rattle.trace.specs.Outcome.{lent}
 use Rattle.trace.specs.Record.{tested_told}
 use Rattle.record.proofs.RecordWriting.{held, write_left, write_stops, write_over, write_goes, write_leaves}

@@ -6,7 +6,7 @@ use Prim.Native.Nat.{◌+◌, ◌*◌, ◌≤◌}
 use native.Mathlib.Omega.{arith}
 use lib.ListN.{length}
 use borrow.Author.Rules.{rules}
-use Rattle.field.specs.Told.{accepted}
+use Rattle.refusal.specs.Told.{accepted}
 use Rattle.trace.specs.Outcome.{Lent, lent}
 use Rattle.trace.specs.Record.{tested_told, of_record}
 use Rattle.rows.specs.Fill.{num_rows}

@@ -4,7 +4,7 @@ use mathlib.Core.List.{[]}
 use mathlib.Core.Path.{◌≡◌}
 use Prim.Native.Nat.{ℕ, ◌+◌, ◌-◌, ◌*◌, ◌≤◌, ◌<◌}
 use lib.ListN.{length}
-use Rattle.field.specs.Told.{accepted}
+use Rattle.refusal.specs.Told.{accepted}
 use Rattle.trace.specs.Outcome.{lent}
 use Rattle.eval_circuit.specs.Circuit.{gate_answer}
 use Rattle.eval_circuit.specs.Inside.{circuit_of, after, stage}

@@ -1,12 +1,13 @@
 -- `field::felt::mul` meets its contract.
 -- Assumes nothing.
-use Rattle.std.proofs.Common.{ℕ, [], ◌∷◌, ap}
-use Rattle.field.proofs.Over.{refused_at, accepted_of}
+use Rattle.std.proofs.Common.{ℕ, [], ◌∷◌, ap, ◌∙◌}
+use Rattle.refusal.specs.Told.{accepted}
+use Rattle.refusal.specs.Refusal.{number_alone}
+use Rattle.field.proofs.Over.{elements_refused, elements_passed}
 use Rattle.field.proofs.felt.mul.Goals as goal
 
-pub returns-then-place-lt2 : goal.returns-then-place-lt2
-returns-then-place-lt2 c = refused_at _ _ _ c.first_over-place.ensures c.if-place-lt2.true
+pub returns-in_err-test_elements : goal.returns-in_err-test_elements
+returns-in_err-test_elements c = elements_refused number_alone _ _ _ _ c.from_residual.ensures c.in_err-test_elements.ensures
 
 pub returns : goal.returns
-returns c =
-    accepted_of _ _ _ _ c.first_over-place.ensures c.if-place-lt2.false (ap (λ (v : ℕ). v ∷ []) c.mul_mod.ensures)
+returns c = ap (λ (v : ℕ). accepted (v ∷ [])) c.mul_mod.ensures ∙ elements_passed _ _ c.in_ok-test_elements.ensures

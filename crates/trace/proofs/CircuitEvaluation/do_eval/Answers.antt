@@ -4,7 +4,7 @@ use mathlib.Core.List.{List, [], ◌∷◌}
 use mathlib.Core.Path.{◌≡◌, sym, ap, ◌∙◌}
 use Prim.Native.Nat.{ℕ}
 use native.Mathlib.Omega.{arith}
-use Rattle.field.specs.Told.{accepted}
+use Rattle.refusal.specs.Told.{accepted}
 use Rattle.instruction.specs.declared.Op.{Op}
 use Rattle.instruction.specs.Decode.{op_number, decode_told, decode_answer}
 use Rattle.trace.specs.Record.{tested_told}

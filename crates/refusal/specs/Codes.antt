@@ -1,7 +1,7 @@
 -- The parts of an answer, for callers to whom it goes in numbers.
 -- Assumes nothing.
 use Rattle.std.specs.Prelude.{ℕ, List, take, slice_index}
-use Rattle.field.specs.Told.{Told, accepted, refused}
+use Rattle.refusal.specs.Told.{Told, accepted, refused}
 
 -- 0, or the refusal's number
 abbrev pub code : Told → ℕ

@@ -1,7 +1,7 @@
 -- What follows of answers, and of tests, that are said to be the same.
 -- Assumes nothing.
 use Rattle.std.proofs.Common.{◌≡◌, ℕ, true, false, List, arith}
-use Rattle.field.specs.Told.{accepted, refused}
+use Rattle.refusal.specs.Told.{accepted, refused}
 
 -- what is refused is not accepted
 pub clash : {A : Type 0} {number place : ℕ} {vs : List ℕ} → refused number place ≡ accepted vs → A

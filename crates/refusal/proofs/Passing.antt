@@ -1,0 +1,18 @@
+-- Tests one after the other: what one refuses is the answer of all, and what it passes goes on.
+-- Assumes nothing.
+use Rattle.std.proofs.Common.{◌≡◌, ◌∙◌, ap, List, ℕ, Result, Ok, Err}
+use Rattle.std.specs.Result.{IsErr, IsErrAnd}
+use Rattle.refusal.specs.Told.{Told, accepted, refused, or_else}
+use Rattle.refusal.specs.Refusal.{number_of, place_of, told}
+use Rattle.refusal.specs.declared.Refusal.{Refusal}
+
+-- what `?` passes up
+pub told_up : {T : Type 0} (values : T → List ℕ) (r : Result T Refusal) (e : Refusal) → IsErr r × IsErrAnd r (λ y. y ≡ e) → told values r ≡ refused (number_of e) (place_of e)
+told_up values (Ok v) e h = absurd h.1
+told_up values (Err d) e h = ap (λ (y : Refusal). refused (number_of y) (place_of y)) h.1
+
+pub stops : {T : Type 0} (values : T → List ℕ) (r : Result T Refusal) (e : Refusal) (x t : Told) → IsErr r × IsErrAnd r (λ y. y ≡ e) → refused (number_of e) (place_of e) ≡ x → told values r ≡ or_else x t
+stops values r e x t h is = told_up values r e h ∙ ap (λ (y : Told). or_else y t) is
+
+pub passes : (vs : List ℕ) (x t : Told) → accepted vs ≡ x → t ≡ or_else x t
+passes vs x t is = ap (λ (y : Told). or_else y t) is
