@@ -1,11 +1,11 @@
 -- A decode answer is known from what it tells.
 -- Assumes nothing.
-use mathlib.Core.Path.{◌≡◌}
+use Rattle.std.proofs.Common.{◌≡◌, ℕ, [], ◌∷◌, Result}
 use Rattle.instruction.specs.Decode.{op_number, decode_told}
 use Rattle.instruction.specs.declared.Op.{Op}
 use Rattle.instruction.specs.declared.Op.TheVariants.{Sub, Mul, Add}
-use Rattle.instruction.specs.declared.DecodeAnswer.{DecodeAnswer}
-use Rattle.instruction.specs.declared.DecodeAnswer.TheVariants.{Instruction, Refused}
+use Rattle.refusal.specs.declared.Refusal.{Refusal}
+use Rattle.refusal.proofs.Known.{told_determined}
 
 op_determined : (o q : Op) → op_number o ≡ op_number q → o ≡ q
 op_determined Sub Sub e = cc
@@ -18,11 +18,11 @@ op_determined Add Sub e = cc
 op_determined Add Mul e = cc
 op_determined Add Add e = cc
 
-pub decode_determined : (r s : DecodeAnswer) → decode_told r ≡ decode_told s → r ≡ s
-decode_determined (Instruction l r o) (Instruction k s q) e =
+same_word : (v w : ℕ × ℕ × Op) → v.0 ∷ v.1 ∷ op_number v.2 ∷ [] ≡ w.0 ∷ w.1 ∷ op_number w.2 ∷ [] → v ≡ w
+same_word (l, r, o) (k, s, q) e =
     let h : op_number o ≡ op_number q = cc in
     let i : o ≡ q = op_determined o q h in
     cc
-decode_determined (Instruction l r o) (Refused n k) e = cc
-decode_determined (Refused n k) (Instruction l r o) e = cc
-decode_determined (Refused n k) (Refused m l) e = cc
+
+pub decode_determined : (r s : Result (ℕ × ℕ × Op) Refusal) → decode_told r ≡ decode_told s → r ≡ s
+decode_determined = told_determined (λ word. word.0 ∷ word.1 ∷ op_number word.2 ∷ []) same_word

@@ -11,7 +11,9 @@ use Rattle.field.specs.Field.{p, first_over}
 use Rattle.field.proofs.Over.{over_here, over_later, refused_at, of_elements_lem}
 use Rattle.field.proofs.Cases.{below?}
 use Rattle.refusal.proofs.Tellings.{clash}
-use Rattle.instruction.specs.Decode.{left_id, right_id, opcode, decode_answer}
+use Rattle.instruction.specs.Decode.{left_id, right_id, opcode, op_number, decode_answer}
+use Rattle.instruction.specs.declared.Op.{Op}
+use Rattle.instruction.specs.declared.Op.TheVariants.{Sub, Mul, Add}
 
 -- the three cases
 pub not_element : (v : ℕ) → p ≤ v → decode_answer v ≡ refused 7 0
@@ -32,6 +34,11 @@ instruction v h l = of_elements_lem (v ∷ []) _ (element v h) ∙ rw (lt-ltb (o
 -- the opcode as the code takes it out, thirty bits at a time
 pub op_above : (v : ℕ) → v / 2 ^ 30 / 2 ^ 30 ≡ opcode v
 op_above v = omega arith
+
+pub op_below : (op : Op) → op_number op < 3
+op_below Sub = omega arith
+op_below Mul = omega arith
+op_below Add = omega arith
 
 pub known : (v op : ℕ) → v < p → v / 2 ^ 30 / 2 ^ 30 ≡ op → op < 3 → accepted (left_id v ∷ right_id v ∷ op ∷ []) ≡ decode_answer v
 known v op h e l =

@@ -1,12 +1,12 @@
 -- What a gate word says.
 -- Assumes nothing.
-use Rattle.std.specs.Prelude.{ℕ, ◌/◌, ◌%◌, ◌^◌, cond, [], ◌∷◌, ltb}
+use Rattle.std.specs.Prelude.{◌≡◌, ◌≤◌, ℕ, Result, MatchResult, ◌/◌, ◌%◌, ◌^◌, cond, [], ◌∷◌, ltb}
 use Rattle.refusal.specs.Told.{Told, accepted, refused}
+use Rattle.refusal.specs.Refusal.{told}
+use Rattle.refusal.specs.declared.Refusal.{Refusal}
 use Rattle.field.specs.Answer.{of_elements}
 use Rattle.instruction.specs.declared.Op.{Op}
 use Rattle.instruction.specs.declared.Op.TheVariants.{Sub, Mul, Add}
-use Rattle.instruction.specs.declared.DecodeAnswer.{DecodeAnswer}
-use Rattle.instruction.specs.declared.DecodeAnswer.TheVariants.{Instruction, Refused}
 
 abbrev pub left_id : ℕ → ℕ
 left_id v = v % 2 ^ 30
@@ -22,10 +22,13 @@ op_number Sub = 0
 op_number Mul = 1
 op_number Add = 2
 
+-- the operation with a number, and of no other number
+abbrev pub Numbered : ℕ → Result Op ℕ → Type 0
+Numbered v r = MatchResult r (λ op. op_number op ≡ v) (λ e. (e ≡ v) × (3 ≤ v))
+
 -- each case of an answer, by number, place and values
-abbrev pub decode_told : DecodeAnswer → Told
-decode_told (Instruction l r op) = accepted (l ∷ r ∷ op_number op ∷ [])
-decode_told (Refused number place) = refused number place
+abbrev pub decode_told : Result (ℕ × ℕ × Op) Refusal → Told
+decode_told = told (λ word. word.0 ∷ word.1 ∷ op_number word.2 ∷ [])
 
 -- the ids and the opcode of an element whose opcode is 0 to 2; else 8, at gate 0
 unfoldable pub decode_answer : ℕ → Told
