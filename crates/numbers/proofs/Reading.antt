@@ -3,7 +3,7 @@
 use Prim.Native.Nat.{ℕ, suc, ◌+◌, ◌-◌, ◌*◌, ◌^◌, ◌≤◌, ◌<◌}
 use mathlib.Core.Path.{◌≡◌, refl, sym, ap, ap₂, ◌∙◌}
 use mathlib.Core.Logic.{⊎_elim}
-use mathlib.Core.Bool.{Bool, true, false}
+use mathlib.Core.Bool.{true, false}
 use mathlib.Core.List.{List, [], ◌∷◌}
 use native.Mathlib.Nat.{add-mul, mul_comm, mul_assoc, mul-le-mul_right}
 use native.Mathlib.Numerals.{add-one}
@@ -11,93 +11,80 @@ use native.Mathlib.Omega.{arith}
 use lib.ListN.{length, get_or, drop, drop_of_length-le}
 use lib.Pow.{pow-add, pow_mono}
 use lib.Seq.{drop-cons}
-use Rattle.refusal.specs.Told.{Told, accepted, refused}
+use Rattle.std.specs.Option.{UnwrapsOrElse}
+use Rattle.std.specs.Slice.{IsGetRangeResult}
+use Rattle.std.proofs.lemmas.Slice.{between_to_end}
+use Rattle.std.proofs.Common.{Bor, None, Some}
+use Rattle.std.specs.Prelude.{Option}
+use Rattle.numbers.specs.Answer.{found_at, read_answer}
 use Rattle.field.proofs.Cases.{below?}
 use Rattle.numbers.specs.Form.{Found, found, cut_off, not_shortest, under, ill_formed, find_from}
-use Rattle.numbers.specs.Answer.{found_at, read_answer}
 use Rattle.numbers.proofs.Finding.{WellFormed, in_good_form, find_end, find_ill, find_last, find_more}
 
--- the answer for a number that starts at a place, of which value is read, where what is found from i on counts in units of scale
-abbrev pub join : ℕ → ℕ → ℕ → ℕ → Found → Told
-join at value scale i (found v n) = accepted ((value + v * scale) ∷ (i + n) ∷ [])
-join at value scale i cut_off = refused 15 at
-join at value scale i not_shortest = refused 16 at
+-- what is found, where value is read from the first n bytes, and what is found after them counts in units of scale
+abbrev pub join : ℕ → ℕ → ℕ → Found → Found
+join value scale n (found v k) = found (value + v * scale) (n + k)
+join value scale n cut_off = cut_off
+join value scale n not_shortest = not_shortest
 
-join_under : (at value scale i b : ℕ) (g : Found) → join at value scale i (under b g) ≡ join at (value + (b - 128) * scale) (scale * 128) (i + 1) g
-join_under at value scale i b (found v n) =
+join_under : (value scale n b : ℕ) (g : Found) → join value scale n (under b g) ≡ join (value + (b - 128) * scale) (scale * 128) (n + 1) g
+join_under value scale n b (found v k) =
     let p : (b - 128 + 128 * v) * scale ≡ (b - 128) * scale + 128 * v * scale = add-mul (b - 128) (128 * v) scale in
     let q : 128 * v * scale ≡ v * (scale * 128) = mul_assoc 128 v scale ∙ mul_comm 128 (v * scale) ∙ mul_assoc v scale 128 in
-    let x : value + (b - 128 + 128 * v) * scale ≡ value + (b - 128) * scale + v * (scale * 128) = omega (arith, p, q) in
-    let y : i + suc n ≡ i + 1 + n = omega arith in
-    cc
-join_under at value scale i b cut_off = refl
-join_under at value scale i b not_shortest = refl
+    ap₂ found (omega (arith, p, q)) (omega arith)
+join_under value scale n b cut_off = refl
+join_under value scale n b not_shortest = refl
 
-join_start : (at : ℕ) (g : Found) → join at 0 1 at g ≡ found_at at g
-join_start at (found v n) = ap (λ (x : ℕ). accepted (x ∷ (at + n) ∷ [])) (omega arith)
-join_start at cut_off = refl
-join_start at not_shortest = refl
+join_start : (g : Found) → join 0 1 0 g ≡ g
+join_start (found v k) = ap₂ found (omega arith) (omega arith)
+join_start cut_off = refl
+join_start not_shortest = refl
 
-pub record Reading (s : List ℕ) (at value scale i : ℕ) : Type 0 where
-  pub read : ℕ
-  pub most : read ≤ 9
-  pub place : i ≡ at + read
-  pub unit : scale ≡ 2 ^ (7 * read)
+-- the first n bytes are read, and none of them is the last
+pub record Reading (t : List ℕ) (value scale n : ℕ) : Type 0 where
+  pub most : n ≤ 9
+  pub unit : scale ≡ 2 ^ (7 * n)
   pub low : value < scale
-  pub rest : join at value scale i (find_from read (drop i s)) ≡ read_answer s at
+  pub rest : join value scale n (find_from n (drop n t)) ≡ find_from 0 t
 
-pub reading_start : (s : List ℕ) (at : ℕ) → Reading s at 0 1 at
-unfolding read_answer
-reading_start s at =
-    record { read = 0; most = omega arith; place = omega arith; unit = refl; low = omega arith; rest = join_start at (find_from 0 (drop at s)) }
+pub reading_start : (t : List ℕ) → Reading t 0 1 0
+reading_start t = record { most = omega arith; unit = refl; low = omega arith; rest = join_start (find_from 0 t) }
 
-module _ {s : List ℕ} {at value scale i : ℕ} (r : Reading s at value scale i) where
-  pub begun : at ≤ i
-  begun = omega (arith, r.place)
-
+module _ {t : List ℕ} {value scale n : ℕ} (r : Reading t value scale n) where
   -- the bytes end
-  pub read_short : (number place : ℕ) → number ≡ 15 → place ≡ at → length s ≤ i → refused number place ≡ read_answer s at
-  read_short number place n p h =
-      ap₂ refused n p
-      ∙ ap (join at value scale i) (sym (find_end r.read) ∙ ap (find_from r.read) (sym (drop_of_length-le s h)))
-      ∙ r.rest
+  pub read_short : length t ≤ n → cut_off ≡ find_from 0 t
+  read_short h = ap (join value scale n) (sym (find_end n) ∙ ap (find_from n) (sym (drop_of_length-le t h))) ∙ r.rest
 
-  units : (r.read < 9) → scale ≤ 2 ^ 56
-  units l = let p : 2 ^ (7 * r.read) ≤ 2 ^ 56 = pow_mono {j = 56} (omega arith) in omega (arith, r.unit)
+  units : n < 9 → scale ≤ 2 ^ 56
+  units l = let p : 2 ^ (7 * n) ≤ 2 ^ 56 = pow_mono {j = 56} (omega arith) in omega (arith, r.unit)
 
-  tenth : 9 ≤ r.read → scale ≡ 2 ^ 63
-  tenth l = let e : r.read ≡ 9 = omega (arith, r.most) in r.unit ∙ ap (λ (k : ℕ). 2 ^ (7 * k)) e
+  tenth : 9 ≤ n → scale ≡ 2 ^ 63
+  tenth l = let e : n ≡ 9 = omega (arith, r.most) in r.unit ∙ ap (λ (k : ℕ). 2 ^ (7 * k)) e
 
-  counted : (b : ℕ) (t : Bool) → ill_formed (i - at) b ≡ t → ill_formed r.read b ≡ t
-  counted b t e = let n : i - at ≡ r.read = omega (arith, r.place) in ap (λ (k : ℕ). ill_formed k b) (sym n) ∙ e
-
-  head : i < length s → (g : Found) → find_from r.read (get_or s i 0 ∷ drop (suc i) s) ≡ g → join at value scale i g ≡ read_answer s at
-  head h g e = ap (join at value scale i) (sym e ∙ ap (find_from r.read) (sym (drop-cons s i 0 h))) ∙ r.rest
+  head : n < length t → (g : Found) → find_from n (get_or t n 0 ∷ drop (suc n) t) ≡ g → join value scale n g ≡ find_from 0 t
+  head h g e = ap (join value scale n) (sym e ∙ ap (find_from n) (sym (drop-cons t n 0 h))) ∙ r.rest
 
   -- the next byte is in no good form
-  pub read_ill : (number place : ℕ) → number ≡ 16 → place ≡ at → i < length s → ill_formed (i - at) (get_or s i 0) ≡ true → refused number place ≡ read_answer s at
-  read_ill number place n p h t =
-      ap₂ refused n p ∙ head h not_shortest (find_ill r.read (get_or s i 0) (drop (suc i) s) (counted (get_or s i 0) true t))
+  pub read_ill : n < length t → ill_formed n (get_or t n 0) ≡ true → not_shortest ≡ find_from 0 t
+  read_ill h e = head h not_shortest (find_ill n (get_or t n 0) (drop (suc n) t) e)
 
 -- the next byte is in good form
-pub record Passed (s : List ℕ) (at value scale i : ℕ) : Type 0 where
-  pub reading : Reading s at value scale i
-  pub inside : i < length s
-  pub byte : get_or s i 0 < 256
-  pub good : ill_formed (i - at) (get_or s i 0) ≡ false
+pub record Passed (t : List ℕ) (value scale n : ℕ) : Type 0 where
+  pub reading : Reading t value scale n
+  pub inside : n < length t
+  pub byte : get_or t n 0 < 256
+  pub good : ill_formed n (get_or t n 0) ≡ false
 
-module _ {s : List ℕ} {at value scale i : ℕ} (p : Passed s at value scale i) where
+pub passed : {t : List ℕ} {value scale n : ℕ} → Reading t value scale n → n < length t → get_or t n 0 < 256 → ill_formed n (get_or t n 0) ≡ false
+    → Passed t value scale n
+passed r h b e = record { reading = r; inside = h; byte = b; good = e }
+
+module _ {t : List ℕ} {value scale n : ℕ} (p : Passed t value scale n) where
   abbrev b : ℕ
-  b = get_or s i 0
-
-  abbrev n : ℕ
-  n = p.reading.read
-
-  good-next : ill_formed n b ≡ false
-  good-next = counted p.reading b false p.good
+  b = get_or t n 0
 
   well : WellFormed n b
-  well = in_good_form n b good-next
+  well = in_good_form n b p.good
 
   -- it is the last
   pub last_fits : b < 128 → value + b * scale < 2 ^ 64
@@ -108,9 +95,8 @@ module _ {s : List ℕ} {at value scale i : ℕ} (p : Passed s at value scale i)
       (λ l. omega (arith, tenth r l, r.low, mul-le-mul_right {m = b} {n = 1} scale (well.tenth (omega (arith, r.most)))))
       (below? n 9)
 
-  pub read_last : (v next : ℕ) → v ≡ value + b * scale → next ≡ i + 1 → b < 128 → accepted (v ∷ next ∷ []) ≡ read_answer s at
-  read_last v next e f l =
-      ap₂ (λ (x y : ℕ). accepted (x ∷ y ∷ [])) e f ∙ head p.reading p.inside (found b 1) (find_last n b (drop (suc i) s) good-next l)
+  pub read_last : b < 128 → found (value + b * scale) (n + 1) ≡ find_from 0 t
+  read_last l = head p.reading p.inside (found b 1) (find_last n b (drop (suc n) t) p.good l)
 
   -- it is not the last
   not-tenth : 128 ≤ b → n < 9
@@ -122,19 +108,27 @@ module _ {s : List ℕ} {at value scale i : ℕ} (p : Passed s at value scale i)
   pub more_fits : 128 ≤ b → value + (b - 128) * scale < scale * 128
   more_fits l = omega (arith, p.byte, p.reading.low, mul-le-mul_right {m = b - 128} {n = 127} scale (omega (arith, p.byte)))
 
-  pub read_next : (v unit : ℕ) → v ≡ value + (b - 128) * scale → unit ≡ scale * 128 → 128 ≤ b → Reading s at v unit (i + 1)
-  read_next v unit e f l =
-      let k : 7 * suc n ≡ 7 * n + 7 = omega arith in
-      let u : 2 ^ (7 * suc n) ≡ 2 ^ (7 * n) * 128 = ap (λ (j : ℕ). 2 ^ j) k ∙ pow-add 2 (7 * n) 7 in
+  pub read_next : 128 ≤ b → Reading t (value + (b - 128) * scale) (scale * 128) (n + 1)
+  read_next l =
+      let k : 7 * (n + 1) ≡ 7 * n + 7 = omega arith in
+      let u : 2 ^ (7 * (n + 1)) ≡ 2 ^ (7 * n) * 128 = ap (λ (j : ℕ). 2 ^ j) k ∙ pow-add 2 (7 * n) 7 in
       record {
-        read = suc n;
-        most = not-tenth l;
-        place = omega (arith, p.reading.place);
-        unit = omega (arith, f, p.reading.unit, u);
-        low = omega (arith, e, f, more_fits l);
+        most = omega (arith, not-tenth l);
+        unit = omega (arith, p.reading.unit, u);
+        low = more_fits l;
         rest =
-            ap₂ (λ (x y : ℕ). join at x y (i + 1) (find_from (suc n) (drop (i + 1) s))) e f
-            ∙ ap (λ (j : ℕ). join at (value + (b - 128) * scale) (scale * 128) (i + 1) (find_from (suc n) (drop j s))) (add-one i)
-            ∙ sym (join_under at value scale i b (find_from (suc n) (drop (suc i) s)))
-            ∙ head p.reading p.inside (under b (find_from (suc n) (drop (suc i) s))) (find_more n b (drop (suc i) s) good-next l);
+            ap (λ (k : ℕ). join (value + (b - 128) * scale) (scale * 128) (n + 1) (find_from k (drop k t))) (add-one n)
+            ∙ sym (join_under value scale n b (find_from (suc n) (drop (suc n) t)))
+            ∙ head p.reading p.inside (under b (find_from (suc n) (drop (suc n) t))) (find_more n b (drop (suc n) t) p.good l);
       }
+
+-- the bytes from at on; none, where there are fewer
+tail_is : (s : List ℕ) (at : ℕ) (r : Option (Bor (List ℕ))) (t : Bor (List ℕ)) → IsGetRangeResult s at (length s) r → UnwrapsOrElse r (λ x. x.now ≡ []) t
+    → t.now ≡ drop at s
+tail_is s at None t (p, _) u = u ∙ sym (drop_of_length-le s (⊎_elim (λ l. omega arith) (λ l. absurd (omega arith)) p))
+tail_is s at (Some x) t ((_, _, e, _), _) u = ap (λ (y : Bor (List ℕ)). y.now) u ∙ e ∙ between_to_end s at (length s) (omega arith)
+
+pub answer_from : (s : List ℕ) (at : ℕ) (r : Option (Bor (List ℕ))) (t : Bor (List ℕ)) {g : Found} → IsGetRangeResult s at (length s) r
+    → UnwrapsOrElse r (λ x. x.now ≡ []) t → g ≡ find_from 0 t.now → found_at at g ≡ read_answer s at
+unfolding read_answer
+answer_from s at r t l u e = ap (found_at at) (e ∙ ap (find_from 0) (tail_is s at r t l u))

@@ -39,7 +39,7 @@ pub fn width(v: u64) -> usize
     if v == 0 {
         return 1;
     }
-    ((63 - u64::leading_zeros(v)) / 7 + 1) as usize
+    ((63 - v.leading_zeros()) / 7 + 1) as usize
 }
 
 // Writes v into out from the place at on, where there is room for all of it.
@@ -47,45 +47,38 @@ pub fn write(v: u64, out: &mut [u8], at: usize) -> WriteAnswer
     ensures result_value { write_told result ≡ write_answer v out.old at }
     ensures out_after { out.new ≡ written v out.old at }
 {
-    if bytes_left(out.len(), at) < width(v) {
+    let bytes = width(v);
+    let room = out.len().saturating_sub(at);
+    if room < bytes {
         return WriteAnswer::Refused(NO_ROOM, 0);
     }
+    let last = at + bytes - 1;
     let mut rest = v;
-    let mut i = at;
-    while rest >= 128 {
-        out[i] = (rest % 128 + 128) as u8;
-        rest = rest / 128;
-        i += 1;
+    for byte in &mut out[at..last] {
+        *byte = (rest % 128 + 128) as u8;
+        rest /= 128;
     }
-    out[i] = rest as u8;
-    WriteAnswer::Next(i + 1)
-}
-
-// How many bytes there are from the place at on; at may be anything.
-fn bytes_left(len: usize, at: usize) -> usize
-    ensures { result ≡ len - at }
-{
-    if len < at { 0 } else { len - at }
+    out[last] = rest as u8;
+    WriteAnswer::Next(last + 1)
 }
 
 // Reads the number that starts at the place at of s. Both refusals tell that place.
 pub fn read(s: &[u8], at: usize) -> ReadAnswer
     ensures { read_told result ≡ read_answer s.now at }
 {
-    let mut value: u64 = 0;
-    let mut scale: u64 = 1;
-    let mut i = at;
-    while i < s.len() {
-        let b = s[i] as u64;
-        if ill_formed(i - at, b) {
+    let tail = s.get(at..).unwrap_or_default();
+    let mut value = 0;
+    let mut scale = 1;
+    for (n, &byte) in tail.iter().enumerate() {
+        let b = byte as u64;
+        if ill_formed(n, b) {
             return ReadAnswer::Refused(NOT_SHORTEST, at as u64);
         }
         if b < 128 {
-            return ReadAnswer::Number(value + b * scale, i + 1);
+            return ReadAnswer::Number(value + b * scale, at + n + 1);
         }
-        value = value + (b - 128) * scale;
-        scale = scale * 128;
-        i += 1;
+        value += (b - 128) * scale;
+        scale *= 128;
     }
     ReadAnswer::Refused(CUT_OFF, at as u64)
 }
@@ -106,14 +99,9 @@ pub fn read_below(s: &[u8], at: usize, bound: u64) -> ReadAnswer
 
 // Whether b, after n bytes of a number, is a 0 that ends a longer form than the shortest, or a
 // tenth byte over 1.
+#[tactic(auto, unfolding(crate::specs::Form::ill_formed))]
 fn ill_formed(n: usize, b: u64) -> bool
     ensures { result ≡ ill_formed n b }
 {
-    if b == 0 {
-        return 0 < n;
-    }
-    if n == 9 {
-        return 1 < b;
-    }
-    false
+    (n > 0 && b == 0) || (n == 9 && b > 1)
 }

@@ -1,40 +1,56 @@
 -- `numbers::write` meets its contract.
 -- Assumes nothing.
-use mathlib.Core.Path.{sym}
+use Prim.Native.Nat.{ℕ, ◌+◌, ◌-◌}
+use mathlib.Core.Path.{sym, ap, ◌∙◌}
+use mathlib.Core.List.{[], ◌∷◌}
+use Rattle.refusal.specs.Told.{accepted}
+use Rattle.std.proofs.lemmas.List.Edits.{length-between}
 use native.Mathlib.Omega.{arith}
-use borrow.Author.Rules.{rules}
-use lib.ListN.{length-set}
 use Rattle.numbers.proofs.Groups.{width_some}
-use Rattle.numbers.proofs.Writing.{no_room_answer, no_room-written, left_start, left_within, left_next, left_answer, left_done}
+use Rattle.numbers.proofs.Writing.{no_room_answer, no_room-written, room_answer, left_start, left_next, left_last, left_done, part_length}
 use Rattle.numbers.proofs.write.Goals as goal
 
-pub returns-then-bytes_left-width : goal.returns-then-bytes_left-width
-returns-then-bytes_left-width c = record { result_value = sym (no_room_answer _ _ _ (omega arith)); out_after = sym (no_room-written _ _ _ (omega arith)) }
+pub returns-then-room-bytes-clause-result_value : goal.returns-then-room-bytes-clause-result_value
+returns-then-room-bytes-clause-result_value c = sym (no_room_answer _ _ _ (omega (arith, width_some c.args.v)))
 
-pub loop-rest-init : goal.loop-rest-init
-loop-rest-init c =
-    let a = c.before.before.before.before in
-    left_start _ _ _ a.ranges.v.fits (omega (arith, width_some a.args.v))
+pub returns-then-room-bytes-clause-out_after : goal.returns-then-room-bytes-clause-out_after
+returns-then-room-bytes-clause-out_after c = sym (no_room-written _ _ _ (omega (arith, width_some c.args.v)))
 
-pub bounds-out-i : goal.bounds-out-i
-bounds-out-i c = left_within c.loop-rest.invariant
+pub overflow_sub-last : goal.overflow_sub-last
+overflow_sub-last c = omega (arith, width_some c.args.v)
 
-pub overflow_add-i : goal.overflow_add-i
-overflow_add-i c = omega (arith, left_within c.loop-rest.invariant)
+pub slice_bounds-byte-items-count : goal.slice_bounds-byte-items-count
+slice_bounds-byte-items-count c = omega (arith, width_some c.args.v)
 
-pub loop-rest-preserved : goal.loop-rest-preserved
-loop-rest-preserved c = left_next c.loop-rest.invariant _ (omega arith) (search rules)
+pub slice_bounds-byte-items-start : goal.slice_bounds-byte-items-start
+slice_bounds-byte-items-start c = omega (arith, width_some c.args.v)
 
-pub bounds-out-i-2 : goal.bounds-out-i-2
-bounds-out-i-2 c = left_within c.loop-rest.invariant
+pub slice_bounds-byte-items-end : goal.slice_bounds-byte-items-end
+slice_bounds-byte-items-end c = omega (arith, width_some c.args.v)
 
-pub overflow_add-result : goal.overflow_add-result
-overflow_add-result c = omega (arith, left_within c.loop-rest.invariant)
+pub loop-byte-init : goal.loop-byte-init
+loop-byte-init c = left_start _ _ c.ranges.v.fits
 
-pub shape_of-out : goal.shape_of-out
-shape_of-out c = simp length-set c.loop-rest.invariant.same
+pub loop-byte-preserved : goal.loop-byte-preserved
+loop-byte-preserved c =
+    left_next c.loop-byte.invariant (omega (arith, length-between c.args.out.now c.args.at (c.args.at + c.width-bytes.result - 1))) (omega arith)
 
-pub returns : goal.returns
-returns c =
-    let l = c.loop-rest.invariant in
-    record { result_value = left_answer l _ (omega arith) (search rules); out_after = left_done l (search rules) }
+pub overflow_cast-out : goal.overflow_cast-out
+overflow_cast-out c =
+    let k = length-between c.args.out.now c.args.at (c.args.at + c.width-bytes.result - 1) in
+    omega (arith, left_last c.loop-byte.invariant (omega (arith, k (omega (arith, width_some c.args.v)), width_some c.args.v)))
+
+pub bounds-out-last : goal.bounds-out-last
+bounds-out-last c =
+    let k = length-between c.args.out.now c.args.at (c.args.at + c.width-bytes.result - 1) in
+    omega (arith, width_some c.args.v, part_length c.args.out.now c.args.at c.loop-byte.byte-items (c.args.at + c.width-bytes.result - 1 - c.args.at) (omega (arith, width_some c.args.v)) (omega (arith, k (omega (arith, width_some c.args.v)))))
+
+pub returns-clause-result_value : goal.returns-clause-result_value
+returns-clause-result_value c =
+    ap (λ (n : ℕ). accepted (n ∷ [])) (omega (arith, width_some c.args.v)) ∙ sym (room_answer _ _ _ (omega (arith, width_some c.args.v)))
+
+pub returns-clause-out_after : goal.returns-clause-out_after
+returns-clause-out_after c =
+    let k = length-between c.args.out.now c.args.at (c.args.at + c.width-bytes.result - 1) in
+    left_done c.loop-byte.invariant c.args.out.now c.args.at _ (omega (arith, width_some c.args.v)) (omega (arith, width_some c.args.v)) (omega (arith, k (omega (arith, width_some c.args.v))))
+    (omega (arith, k (omega (arith, width_some c.args.v))))

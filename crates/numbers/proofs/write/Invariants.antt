@@ -3,8 +3,5 @@
 use Rattle.numbers.proofs.Writing.{Left}
 use Rattle.numbers.proofs.write.Given as goal
 
-abbrev pub invariant-loop-rest : goal.invariant-loop-rest
-invariant-loop-rest l = Left l.v l.initial.out l.at l.out l.rest l.i
-
-abbrev pub decreases-loop-rest : goal.decreases-loop-rest
-decreases-loop-rest l = l.rest
+abbrev pub invariant-loop-byte : goal.invariant-loop-byte
+invariant-loop-byte l = Left l.v l.byte-items l.byte-index l.rest
