@@ -1,35 +1,13 @@
 -- The equations of `ill_formed` and `find_from`.
 -- Assumes nothing.
 use Prim.Native.Nat.{ℕ, suc, ◌≤◌, ◌<◌}
-use mathlib.Core.Path.{◌≡◌, refl, sym, ◌∙◌}
+use mathlib.Core.Path.{◌≡◌, refl}
 use mathlib.Core.Bool.{Bool, true, false, ◌&&◌, ◌||◌}
 use mathlib.Core.List.{List, [], ◌∷◌}
 use native.Mathlib.Omega.{arith}
 use lib.Dec.{ltb, eqb}
 use borrow.Author.Tests.{lt-ltb, le-ltb, eq-eqb, ne_eqb, ltb-true, ltb-false, eqb-true, eqb-false}
 use Rattle.numbers.specs.Form.{found, cut_off, not_shortest, under, ill_formed, find_from}
-
-first_alone : (x y : Bool) → (x && true) || (y && false) ≡ x
-first_alone true y = refl
-first_alone false true = refl
-first_alone false false = refl
-
-second_alone : (x y : Bool) → (x && false) || y ≡ y
-second_alone true y = refl
-second_alone false y = refl
-
--- the three cases, as `ill_formed` asks for them
-pub ill_zero : (n b : ℕ) (t : Bool) → b ≡ 0 → t ≡ ltb 0 n → t ≡ ill_formed n b
-unfolding ill_formed
-ill_zero n b t e q = let l : b ≤ 1 = omega arith in q ∙ sym (rw (eq-eqb b 0 e, le-ltb 1 b l) (first_alone (ltb 0 n) (eqb n 9)))
-
-pub ill_tenth : (n b : ℕ) (t : Bool) → (b ≡ 0 → ⊥) → n ≡ 9 → t ≡ ltb 1 b → t ≡ ill_formed n b
-unfolding ill_formed
-ill_tenth n b t h e q = q ∙ sym (rw (ne_eqb b 0 h, eq-eqb n 9 e) (second_alone (ltb 0 n) (ltb 1 b)))
-
-pub ill_other : (n b : ℕ) (t : Bool) → (b ≡ 0 → ⊥) → (n ≡ 9 → ⊥) → t ≡ false → t ≡ ill_formed n b
-unfolding ill_formed
-ill_other n b t h e q = q ∙ sym (rw (ne_eqb b 0 h, ne_eqb n 9 e) (second_alone (ltb 0 n) false))
 
 -- what a byte in good form is, and that nothing else is asked of it
 pub record WellFormed (n b : ℕ) : Type 0 where

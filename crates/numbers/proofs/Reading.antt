@@ -35,20 +35,12 @@ join_under value scale n b (found v k) =
 join_under value scale n b cut_off = refl
 join_under value scale n b not_shortest = refl
 
-join_start : (g : Found) → join 0 1 0 g ≡ g
-join_start (found v k) = ap₂ found (omega arith) (omega arith)
-join_start cut_off = refl
-join_start not_shortest = refl
-
 -- the first n bytes are read, and none of them is the last
 pub record Reading (t : List ℕ) (value scale n : ℕ) : Type 0 where
   pub most : n ≤ 9
   pub unit : scale ≡ 2 ^ (7 * n)
   pub low : value < scale
   pub rest : join value scale n (find_from n (drop n t)) ≡ find_from 0 t
-
-pub reading_start : (t : List ℕ) → Reading t 0 1 0
-reading_start t = record { most = omega arith; unit = refl; low = omega arith; rest = join_start (find_from 0 t) }
 
 module _ {t : List ℕ} {value scale n : ℕ} (r : Reading t value scale n) where
   -- the bytes end

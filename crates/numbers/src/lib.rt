@@ -43,6 +43,7 @@ pub fn width(v: u64) -> usize
 }
 
 // Writes v into out from the place at on, where there is room for all of it.
+#[tactic(auto, using(crate::proofs::Groups::width_some))]
 pub fn write(v: u64, out: &mut [u8], at: usize) -> WriteAnswer
     ensures result_value { write_told result ≡ write_answer v out.old at }
     ensures out_after { out.new ≡ written v out.old at }

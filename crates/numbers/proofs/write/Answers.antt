@@ -16,18 +16,6 @@ returns-then-room-bytes-clause-result_value c = sym (no_room_answer _ _ _ (omega
 pub returns-then-room-bytes-clause-out_after : goal.returns-then-room-bytes-clause-out_after
 returns-then-room-bytes-clause-out_after c = sym (no_room-written _ _ _ (omega (arith, width_some c.args.v)))
 
-pub overflow_sub-last : goal.overflow_sub-last
-overflow_sub-last c = omega (arith, width_some c.args.v)
-
-pub slice_bounds-byte-items-count : goal.slice_bounds-byte-items-count
-slice_bounds-byte-items-count c = omega (arith, width_some c.args.v)
-
-pub slice_bounds-byte-items-start : goal.slice_bounds-byte-items-start
-slice_bounds-byte-items-start c = omega (arith, width_some c.args.v)
-
-pub slice_bounds-byte-items-end : goal.slice_bounds-byte-items-end
-slice_bounds-byte-items-end c = omega (arith, width_some c.args.v)
-
 pub loop-byte-init : goal.loop-byte-init
 loop-byte-init c = left_start _ _ c.ranges.v.fits
 
