@@ -1,20 +1,16 @@
 -- An answer is known from what it tells.
 -- Assumes nothing.
-use mathlib.Core.Path.{◌≡◌}
+use Rattle.std.proofs.Common.{◌≡◌, ℕ, [], ◌∷◌, Result}
+use Rattle.refusal.specs.Refusal.{number_alone}
+use Rattle.refusal.specs.declared.Refusal.{Refusal}
+use Rattle.refusal.proofs.Known.{told_determined}
 use Rattle.numbers.specs.Answer.{write_told, read_told}
-use Rattle.numbers.specs.declared.WriteAnswer.{WriteAnswer}
-use Rattle.numbers.specs.declared.WriteAnswer.TheVariants as write
-use Rattle.numbers.specs.declared.ReadAnswer.{ReadAnswer}
-use Rattle.numbers.specs.declared.ReadAnswer.TheVariants as read
 
-pub write_determined : (r s : WriteAnswer) → write_told r ≡ write_told s → r ≡ s
-write_determined (write.Next i) (write.Next j) e = cc
-write_determined (write.Next i) (write.Refused n k) e = cc
-write_determined (write.Refused n k) (write.Next i) e = cc
-write_determined (write.Refused n k) (write.Refused m l) e = cc
+pub write_determined : (r s : Result ℕ Refusal) → write_told r ≡ write_told s → r ≡ s
+write_determined = told_determined number_alone (λ v w e. cc)
 
-pub read_determined : (r s : ReadAnswer) → read_told r ≡ read_told s → r ≡ s
-read_determined (read.Number v i) (read.Number w j) e = cc
-read_determined (read.Number v i) (read.Refused n k) e = cc
-read_determined (read.Refused n k) (read.Number v i) e = cc
-read_determined (read.Refused n k) (read.Refused m l) e = cc
+same_number : (v w : ℕ × ℕ) → v.0 ∷ v.1 ∷ [] ≡ w.0 ∷ w.1 ∷ [] → v ≡ w
+same_number (v, i) (w, j) e = cc
+
+pub read_determined : (r s : Result (ℕ × ℕ) Refusal) → read_told r ≡ read_told s → r ≡ s
+read_determined = told_determined (λ number. number.0 ∷ number.1 ∷ []) same_number

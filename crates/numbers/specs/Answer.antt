@@ -1,22 +1,18 @@
 -- What the public calls answer and leave, for every argument.
 -- Assumes nothing.
-use Rattle.std.specs.Prelude.{ℕ, ◌+◌, cond, List, [], ◌∷◌, ltb, leb, length, drop}
+use Rattle.std.specs.Prelude.{ℕ, Result, ◌+◌, cond, List, [], ◌∷◌, ltb, leb, length, drop}
 use Rattle.std.proofs.lemmas.List.Edits.{sets}
 use Rattle.refusal.specs.Told.{Told, accepted, refused}
+use Rattle.refusal.specs.Refusal.{told, number_alone}
+use Rattle.refusal.specs.declared.Refusal.{Refusal}
 use Rattle.numbers.specs.Form.{bytes_of, width_of, Found, found, cut_off, not_shortest, find_from}
-use Rattle.numbers.specs.declared.WriteAnswer.{WriteAnswer}
-use Rattle.numbers.specs.declared.WriteAnswer.TheVariants as write
-use Rattle.numbers.specs.declared.ReadAnswer.{ReadAnswer}
-use Rattle.numbers.specs.declared.ReadAnswer.TheVariants as read
 
 -- each case of an answer, by number, place and values
-abbrev pub write_told : WriteAnswer → Told
-write_told (write.Next next) = accepted (next ∷ [])
-write_told (write.Refused number place) = refused number place
+abbrev pub write_told : Result ℕ Refusal → Told
+write_told = told number_alone
 
-abbrev pub read_told : ReadAnswer → Told
-read_told (read.Number v next) = accepted (v ∷ next ∷ [])
-read_told (read.Refused number place) = refused number place
+abbrev pub read_told : Result (ℕ × ℕ) Refusal → Told
+read_told = told (λ number. number.0 ∷ number.1 ∷ [])
 
 -- the place after v's bytes, where there is room for them all from at on; else 24
 unfoldable pub write_answer : ℕ → List ℕ → ℕ → Told

@@ -6,31 +6,7 @@ ghost use Rattle.std.specs.Prelude.{◌≡◌, ◌-◌};
 ghost use Rattle.numbers.specs.Form.{width_of, ill_formed};
 ghost use Rattle.numbers.specs.Answer.{write_told, write_answer, written, read_told, read_answer, read_below_answer};
 
-// The refusal of bytes that end before a number's last byte.
-pub const CUT_OFF: u32 = 15;
-
-// The refusal of a number that is not in shortest form, or whose tenth byte is over 1.
-pub const NOT_SHORTEST: u32 = 16;
-
-// The refusal of a number outside its field's range.
-pub const OUT_OF_RANGE: u32 = 17;
-
-// The refusal where the room lent for output is too small.
-pub const NO_ROOM: u32 = 24;
-
-// The place after the number written, or the refusal's number and place.
-#[derive(Drop)]
-pub enum WriteAnswer {
-    Next(usize),
-    Refused(u32, u64),
-}
-
-// The number and the place after it, or the refusal's number and place.
-#[derive(Drop)]
-pub enum ReadAnswer {
-    Number(u64, usize),
-    Refused(u32, u64),
-}
+use refusal::Refusal;
 
 // "A number's byte length comes from its leading zeros."
 pub fn width(v: u64) -> usize
@@ -42,16 +18,16 @@ pub fn width(v: u64) -> usize
     ((63 - v.leading_zeros()) / 7 + 1) as usize
 }
 
-// Writes v into out from the place at on, where there is room for all of it.
+// Writes v into out from the place at on, where there is room for all of it, and answers the place after it.
 #[tactic(auto, using(crate::proofs::Groups::width_some))]
-pub fn write(v: u64, out: &mut [u8], at: usize) -> WriteAnswer
+pub fn write(v: u64, out: &mut [u8], at: usize) -> Result<usize, Refusal>
     ensures result_value { write_told result ≡ write_answer v out.old at }
     ensures out_after { out.new ≡ written v out.old at }
 {
     let bytes = width(v);
     let room = out.len().saturating_sub(at);
     if room < bytes {
-        return WriteAnswer::Refused(NO_ROOM, 0);
+        return Err(Refusal::NoRoom);
     }
     let last = at + bytes - 1;
     let mut rest = v;
@@ -60,11 +36,11 @@ pub fn write(v: u64, out: &mut [u8], at: usize) -> WriteAnswer
         rest /= 128;
     }
     out[last] = rest as u8;
-    WriteAnswer::Next(last + 1)
+    Ok(last + 1)
 }
 
-// Reads the number that starts at the place at of s. Both refusals tell that place.
-pub fn read(s: &[u8], at: usize) -> ReadAnswer
+// The number that starts at the place at of s, and the place after it. Both refusals tell that place.
+pub fn read(s: &[u8], at: usize) -> Result<(u64, usize), Refusal>
     ensures { read_told result ≡ read_answer s.now at }
 {
     let tail = s.get(at..).unwrap_or_default();
@@ -73,29 +49,26 @@ pub fn read(s: &[u8], at: usize) -> ReadAnswer
     for (n, &byte) in tail.iter().enumerate() {
         let b = byte as u64;
         if ill_formed(n, b) {
-            return ReadAnswer::Refused(NOT_SHORTEST, at as u64);
+            return Err(Refusal::NotShortest(at as u64));
         }
         if b < 128 {
-            return ReadAnswer::Number(value + b * scale, at + n + 1);
+            return Ok((value + b * scale, at + n + 1));
         }
         value += (b - 128) * scale;
         scale *= 128;
     }
-    ReadAnswer::Refused(CUT_OFF, at as u64)
+    Err(Refusal::CutOff(at as u64))
 }
 
 // As read, for a field whose numbers are below bound.
-pub fn read_below(s: &[u8], at: usize, bound: u64) -> ReadAnswer
+pub fn read_below(s: &[u8], at: usize, bound: u64) -> Result<(u64, usize), Refusal>
     ensures { read_told result ≡ read_below_answer bound s.now at }
 {
-    let found = read(s, at);
-    let ReadAnswer::Number(value, next) = found else {
-        return found;
-    };
+    let (value, next) = read(s, at)?;
     if value < bound {
-        return ReadAnswer::Number(value, next);
+        return Ok((value, next));
     }
-    ReadAnswer::Refused(OUT_OF_RANGE, at as u64)
+    Err(Refusal::OutOfRange(at as u64))
 }
 
 // Whether b, after n bytes of a number, is a 0 that ends a longer form than the shortest, or a
