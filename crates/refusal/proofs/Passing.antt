@@ -1,10 +1,11 @@
 -- Tests one after the other: what one refuses is the answer of all, and what it passes goes on.
 -- Assumes nothing.
-use Rattle.std.proofs.Common.{◌≡◌, ◌∙◌, ap, List, ℕ, Result, Ok, Err}
-use Rattle.std.specs.Result.{IsErr, IsErrAnd}
+use Rattle.std.proofs.Common.{◌≡◌, ◌∙◌, refl, ap, List, ℕ, Result, Ok, Err}
+use Rattle.std.specs.Result.{IsOk, IsErr, IsErrAnd}
 use Rattle.refusal.specs.Told.{Told, accepted, refused, or_else}
 use Rattle.refusal.specs.Refusal.{number_of, place_of, told}
 use Rattle.refusal.specs.declared.Refusal.{Refusal}
+use Rattle.refusal.proofs.Tellings.{clash}
 
 -- what `?` passes up
 pub told_up : {T : Type 0} (values : T → List ℕ) (r : Result T Refusal) (e : Refusal) → IsErr r × IsErrAnd r (λ y. y ≡ e) → told values r ≡ refused (number_of e) (place_of e)
@@ -16,3 +17,8 @@ stops values r e x t h is = told_up values r e h ∙ ap (λ (y : Told). or_else 
 
 pub passes : (vs : List ℕ) (x t : Told) → accepted vs ≡ x → t ≡ or_else x t
 passes vs x t is = ap (λ (y : Told). or_else y t) is
+
+-- what is accepted is a value
+pub told_is_ok : {T : Type 0} (values : T → List ℕ) (r : Result T Refusal) (vs : List ℕ) → told values r ≡ accepted vs → IsOk r
+told_is_ok values (Ok v) vs e = refl
+told_is_ok values (Err d) vs e = clash e

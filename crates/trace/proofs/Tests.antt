@@ -1,6 +1,7 @@
 -- What the tests say of the numbers, both ways.
 -- Assumes nothing.
 use mathlib.Core.Path.{◌≡◌, refl, sym, ap, ap₂, ◌∙◌}
+use Rattle.std.proofs.Common.{Result, Ok, Err, is_err}
 use mathlib.Core.Bool.{Bool, true, false, ◌&&◌, ◌||◌}
 use mathlib.Core.List.{List, []}
 use mathlib.Core.Logic.{◌⊎◌, ⊎_elim, inl, inr}
@@ -10,7 +11,9 @@ use lib.Dec.{ltb, leb, eqb}
 use borrow.Author.Tests.{ltb-true, leb-true, eqb-true, ltb-false, eqb-false, lt-ltb, le-ltb, le-leb, lt-leb, eq-eqb, ne_eqb}
 use Rattle.refusal.specs.Told.{Told, accepted, refused}
 use Rattle.field.proofs.Cases.{below?}
+use Rattle.refusal.specs.declared.Refusal.{Refusal}
 use Rattle.refusal.proofs.Tellings.{true_not_false}
+use Rattle.trace.specs.Record.{tested_told}
 use Rattle.trace.specs.declared.CircuitEvaluation.{CircuitEvaluation}
 use Rattle.trace.specs.Counts.{most_wires, wires, of_counts, node_cells, room}
 use Rattle.trace.specs.State.{wires_of, made_of, next_id, is_accepted, sound, read_turn, eval_turn}
@@ -184,6 +187,14 @@ module _ (s : CircuitEvaluation) where
   pub bad_counts : (number place : ℕ) → refused number place ≡ of_counts most_wires s.num_read s.num_eval (accepted []) → false ≡ sound s
   unfolding sound
   bad_counts n k e = sym (first_fails counts-pass? (reads? && (evals? && (in-order? && id?))) (ap is_accepted (sym e)))
+
+  pub refused_counts : (r : Result Unit Refusal) → tested_told r ≡ of_counts most_wires s.num_read s.num_eval (accepted []) → is_err r ≡ true → false ≡ sound s
+  refused_counts (Ok u) e h = true_not_false (sym h)
+  refused_counts (Err d) e h = bad_counts _ _ e
+
+  pub taken_counts : (r : Result Unit Refusal) → tested_told r ≡ of_counts most_wires s.num_read s.num_eval (accepted []) → is_err r ≡ false → accepted [] ≡ of_counts most_wires s.num_read s.num_eval (accepted [])
+  taken_counts (Ok u) e h = e
+  taken_counts (Err d) e h = true_not_false h
 
   pub reads_past : s.num_read < s.reads_done → false ≡ sound s
   unfolding sound

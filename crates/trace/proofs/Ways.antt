@@ -2,6 +2,7 @@
 -- Assumes nothing.
 use mathlib.Core.Path.{◌≡◌, sym, ap, ◌∙◌, subst}
 use mathlib.Core.Bool.{true}
+use Rattle.std.proofs.Common.{Result, Ok, Err}
 use mathlib.Core.List.{List, [], ◌∷◌}
 use mathlib.Core.Logic.{⊎_elim}
 use Prim.Native.Nat.{ℕ, ◌+◌, ◌-◌, ◌*◌, ◌^◌, ◌<◌}
@@ -14,7 +15,9 @@ use Rattle.field.specs.Field.{p, sub_f}
 use Rattle.field.specs.Pair.{Pair, pair, Elements}
 use Rattle.field.specs.Answer.{pair_of}
 use Rattle.field.proofs.Cases.{below?}
-use Rattle.refusal.proofs.Tellings.{clash}
+use Rattle.refusal.specs.Refusal.{number_of, place_of}
+use Rattle.refusal.specs.declared.Refusal.{Refusal}
+use Rattle.refusal.proofs.Tellings.{clash, same_values}
 use Rattle.field.proofs.Over.{elements_of}
 use Rattle.instruction.specs.Decode.{left_id, right_id, opcode, decode_answer}
 use Rattle.instruction.proofs.Laws.{not_instruction, instruction}
@@ -25,8 +28,6 @@ use Rattle.trace.specs.Outcome.{Lent, lent, outcome, fits, value_at}
 use Rattle.trace.specs.Read.{read_tests, read_made, read_step, first_pair, second_pair}
 use Rattle.trace.specs.Eval.{eval_tests, position, is_made, stored_answer, operand_answer, operand, raised, eval_made, operands_step, eval_step}
 use Rattle.trace.specs.declared.wire_bus.WireBus.{WireBus}
-use Rattle.trace.specs.declared.wire_bus.Operand.{Operand}
-use Rattle.trace.specs.declared.wire_bus.Operand.TheVariants as operands
 use Rattle.trace.specs.Inside.{operand_told, counts_after, bus_of, BusRoom, Room, ReadReady, EvalReady}
 use Rattle.trace.proofs.Choices.{both, passes}
 use Rattle.trace.proofs.Tests.{Counts, read_turn_of, eval_turn_of, room_of}
@@ -67,29 +68,23 @@ pub record Taken (num-wires made id : ℕ) (vs cs : List ℕ) (v : Pair) : Type 
   pub elements : Elements v
   pub value : v ≡ value_at vs (position num-wires id)
 
-pub taken : (number gate num-wires made id : ℕ) (vs cs : List ℕ) (v₀ v₁ : ℕ) → accepted (v₀ ∷ v₁ ∷ []) ≡ operand_answer number gate num-wires made id vs cs → Taken num-wires made id vs cs (pair v₀ v₁)
+pub taken : (number gate num-wires made id : ℕ) (vs cs v : List ℕ) → accepted v ≡ operand_answer number gate num-wires made id vs cs → Taken num-wires made id vs cs (pair_of v)
 unfolding operand_answer stored_answer
-taken number gate n m id vs cs v₀ v₁ e =
+taken number gate n m id vs cs v e =
     let k = position n id in
     let a = passes (is_made n m id) _ number gate _ (sym e) in
     let d = passes (ltb (get_or vs (2 * k) 0) p) _ 7 (2 * k) _ a.1 in
     let f = passes (ltb (get_or vs (2 * k + 1) 0) p) _ 7 (2 * k + 1) _ d.1 in
     let g = passes (ltb (get_or cs k 0) (2 ^ 32 - 1)) _ 13 0 _ f.1 in
     let i = both _ _ a.0 in
-    let q = same (get_or vs (2 * k) 0) (get_or vs (2 * k + 1) 0) g.1 in
+    let q : pair (get_or vs (2 * k) 0) (get_or vs (2 * k + 1) 0) ≡ pair_of v = ap pair_of (same_values g.1) in
     record {
       wire = ltb-true _ _ i.0;
       early = ltb-true _ _ i.1;
       count = ltb-true _ _ g.0;
-      elements = elements-at (get_or vs (2 * k) 0) (get_or vs (2 * k + 1) 0) (ltb-true _ _ d.0) (ltb-true _ _ f.0) q;
+      elements = subst Elements q (record { low = ltb-true _ _ d.0; high = ltb-true _ _ f.0 });
       value = sym q;
     }
-  where
-    same : (u₀ u₁ : ℕ) → accepted (u₀ ∷ u₁ ∷ []) ≡ accepted (v₀ ∷ v₁ ∷ []) → pair u₀ u₁ ≡ pair v₀ v₁
-    same u₀ u₁ q = let e₀ : u₀ ≡ v₀ = cc in let e₁ : u₁ ≡ v₁ = cc in cc
-
-    elements-at : (u₀ u₁ : ℕ) → u₀ < p → u₁ < p → pair u₀ u₁ ≡ pair v₀ v₁ → Elements (pair v₀ v₁)
-    elements-at u₀ u₁ l₀ l₁ q = subst Elements q (record { low = l₀; high = l₁ })
 
 -- EVAL
 module _ (s : CircuitEvaluation) (ptr word : ℕ) (b : Lent) where
@@ -148,48 +143,64 @@ room_kept s vs cs ns ds e r = record { few = r.few; room-values = r.room-values;
 pub bus-room : (s : CircuitEvaluation) (w : WireBus) (vs cs ns : List ℕ) → w ≡ bus_of s → Room s vs cs ns → EvalReady s → BusRoom w vs cs
 bus-room s w vs cs ns e r h = rw e (record { bus_few = r.few; bus_made = (let l = h.to_eval in omega arith); bus-values = r.room-values; bus-counts = r.room-counts })
 
--- the two operands, by what looking at each of them answered and left in the counts
-module _ (s : CircuitEvaluation) (ptr left right op : ℕ) (b : Lent) where
-  module _ (o : Operand) (cs : List ℕ) (told : operand_told o ≡ operand 9 s left b) (raise : cs ≡ counts_after (operand_told o) (position (wires_of s) left) b.counts) where
-    pub left_refused : (number place : ℕ) → o ≡ operands.Refused number place → outcome (refused number place) s (lent b.values cs b.nodes) ≡ operands_step s ptr left right op b
-    unfolding operands_step
-    left_refused n k e = rw (raise, ← told, e)
+-- the two operands, by what looking at each of them on the state's bus answered and left in the counts
+module _ (s : CircuitEvaluation) (ptr left right op : ℕ) (b : Lent) (w : WireBus) (at_bus : w ≡ bus_of s) where
+  module _
+      (o : Result (List ℕ) Refusal)
+      (cs : List ℕ)
+      (look : operand_told o ≡ operand_answer 9 s.evals_done w.num_wires w.made left b.values b.counts)
+      (raise : cs ≡ counts_after (operand_told o) (position w.num_wires left) b.counts)
+    where
+      told : operand_told o ≡ operand 9 s left b
+      told = rw at_bus at look
 
-    module _ (a₀ a₁ : ℕ) (l : o ≡ operands.Value a₀ a₁) where
-      pub left_taken : Taken (wires_of s) (made_of s) left b.values b.counts (pair a₀ a₁)
-      left_taken = taken 9 s.evals_done _ _ _ _ _ a₀ a₁ (ap operand_told (sym l) ∙ told)
+      pub left_refused : (e : Refusal) → o ≡ Err e → outcome (refused (number_of e) (place_of e)) s (lent b.values cs b.nodes) ≡ operands_step s ptr left right op b
+      unfolding operands_step
+      left_refused e is = rw (raise, at_bus, ← told, is)
 
-      left-counted : cs ≡ raised (position (wires_of s) left) b.counts
-      left-counted = rw l at raise
+      module _ (l : List ℕ) (is_l : o ≡ Ok l) where
+        pub left_taken : Taken (wires_of s) (made_of s) left b.values b.counts (pair_of l)
+        left_taken = taken 9 s.evals_done _ _ _ _ _ l (ap operand_told (sym is_l) ∙ told)
 
-      module _ (q : Operand) (ds : List ℕ) (told₂ : operand_told q ≡ operand 10 s right (lent b.values cs b.nodes)) (raise₂ : ds ≡ counts_after (operand_told q) (position (wires_of s) right) cs) where
-        pub right_refused : (number place : ℕ) → q ≡ operands.Refused number place → outcome (refused number place) s (lent b.values ds b.nodes) ≡ operands_step s ptr left right op b
-        unfolding operands_step
-        right_refused n k e = rw (raise₂, ← told, l, ← left-counted, ← told₂, e)
+        left-counted : cs ≡ raised (position (wires_of s) left) b.counts
+        left-counted = rw (is_l, at_bus) at raise
 
-        module _ (b₀ b₁ : ℕ) (r : q ≡ operands.Value b₀ b₁) where
-          pub right_taken : Taken (wires_of s) (made_of s) right b.values cs (pair b₀ b₁)
-          right_taken = taken 10 s.evals_done _ _ _ _ _ b₀ b₁ (ap operand_told (sym r) ∙ told₂)
+        module _
+            (q : Result (List ℕ) Refusal)
+            (ds : List ℕ)
+            (look₂ : operand_told q ≡ operand_answer 10 s.evals_done w.num_wires w.made right b.values cs)
+            (raise₂ : ds ≡ counts_after (operand_told q) (position w.num_wires right) cs)
+          where
+            told₂ : operand_told q ≡ operand 10 s right (lent b.values cs b.nodes)
+            told₂ = rw at_bus at look₂
 
-          right-counted : ds ≡ raised (position (wires_of s) right) cs
-          right-counted = rw r at raise₂
+            pub right_refused : (e : Refusal) → q ≡ Err e → outcome (refused (number_of e) (place_of e)) s (lent b.values ds b.nodes) ≡ operands_step s ptr left right op b
+            unfolding operands_step
+            right_refused e is = rw (raise₂, at_bus, ← told, is_l, ← left-counted, ← told₂, is)
 
-          pub both_taken : (id : ℕ) (after : Lent) → id ≡ sub_f s.id_next 1 → after ≡ eval_made s ptr left right op (pair a₀ a₁) (pair b₀ b₁) (lent b.values ds b.nodes)
-              → outcome (accepted []) (record { ctx = s.ctx; clk = s.clk; num_read = s.num_read; num_eval = s.num_eval; reads_done = s.reads_done; evals_done = s.evals_done + 1; id_next = id }) after
-              ≡ operands_step s ptr left right op b
-          unfolding operands_step
-          both_taken id after i e =
-              rw (
-                ← told,
-                l,
-                ← left-counted,
-                ← told₂,
-                r,
-                ← right-counted,
-                e,
-                i,
-                ap (λ (v : Pair). v.c0) left_taken.value,
-                ap (λ (v : Pair). v.c1) left_taken.value,
-                ap (λ (v : Pair). v.c0) right_taken.value,
-                ap (λ (v : Pair). v.c1) right_taken.value,
-              )
+            module _ (r : List ℕ) (is_r : q ≡ Ok r) where
+              pub right_taken : Taken (wires_of s) (made_of s) right b.values cs (pair_of r)
+              right_taken = taken 10 s.evals_done _ _ _ _ _ r (ap operand_told (sym is_r) ∙ told₂)
+
+              right-counted : ds ≡ raised (position (wires_of s) right) cs
+              right-counted = rw (is_r, at_bus) at raise₂
+
+              pub both_taken : (id : ℕ) (after : Lent) → id ≡ sub_f s.id_next 1 → after ≡ eval_made s ptr left right op (pair_of l) (pair_of r) (lent b.values ds b.nodes)
+                  → outcome (accepted []) (record { ctx = s.ctx; clk = s.clk; num_read = s.num_read; num_eval = s.num_eval; reads_done = s.reads_done; evals_done = s.evals_done + 1; id_next = id }) after
+                  ≡ operands_step s ptr left right op b
+              unfolding operands_step
+              both_taken id after i e =
+                  rw (
+                    ← told,
+                    is_l,
+                    ← left-counted,
+                    ← told₂,
+                    is_r,
+                    ← right-counted,
+                    e,
+                    i,
+                    ap (λ (v : Pair). v.c0) left_taken.value,
+                    ap (λ (v : Pair). v.c1) left_taken.value,
+                    ap (λ (v : Pair). v.c0) right_taken.value,
+                    ap (λ (v : Pair). v.c1) right_taken.value,
+                  )

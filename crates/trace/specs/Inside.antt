@@ -1,13 +1,13 @@
 -- What the private functions promise each other. No public contract cites this file.
 -- Assumes nothing.
-use Rattle.std.specs.Prelude.{◌≡◌, ℕ, ◌+◌, ◌*◌, ◌≤◌, ◌<◌, List, [], ◌∷◌, length}
+use Rattle.std.specs.Prelude.{◌≡◌, ℕ, Result, ◌+◌, ◌*◌, ◌≤◌, ◌<◌, List, [], ◌∷◌, length}
 use Rattle.refusal.specs.Told.{Told, accepted, refused}
+use Rattle.refusal.specs.Refusal.{told}
+use Rattle.refusal.specs.declared.Refusal.{Refusal}
 use Rattle.field.specs.Field.{p}
 use Rattle.field.specs.Answer.{pair_of}
 use Rattle.trace.specs.declared.CircuitEvaluation.{CircuitEvaluation}
 use Rattle.trace.specs.declared.wire_bus.WireBus.{WireBus}
-use Rattle.trace.specs.declared.wire_bus.Operand.{Operand}
-use Rattle.trace.specs.declared.wire_bus.Operand.TheVariants as operand
 use Rattle.trace.specs.declared.nodes.ReadNode.{ReadNode}
 use Rattle.trace.specs.declared.nodes.EvalNode.{EvalNode}
 use Rattle.trace.specs.Counts.{most_wires, node_cells}
@@ -16,14 +16,8 @@ use Rattle.trace.specs.Read.{read_node}
 use Rattle.trace.specs.Eval.{eval_node, raised}
 
 -- each case of an answer, by number, place and values
-abbrev pub operand_told : Operand → Told
-operand_told (operand.Value v w) = accepted (v ∷ w ∷ [])
-operand_told (operand.Refused number place) = refused number place
-
--- the value of an answer about pairs, and zero of a refusal
-abbrev pub value_told : Told → List ℕ
-value_told (accepted vs) = vs
-value_told (refused number place) = 0 ∷ 0 ∷ []
+abbrev pub operand_told : Result (List ℕ) Refusal → Told
+operand_told = told (λ v. v)
 
 -- the cells of a node
 abbrev pub read_cells : ReadNode → List ℕ

@@ -1,10 +1,10 @@
 -- Opening: "takes ctx, clk, num_read and num_eval (u32) and refuses" 1, 2, 3 and 6, "changing nothing".
 -- Assumes nothing.
-use Rattle.std.specs.Prelude.{ℕ, List, [], ◌∷◌}
+use Rattle.std.specs.Prelude.{ℕ, Result, List, [], ◌∷◌}
 use Rattle.refusal.specs.Told.{Told, accepted, refused}
+use Rattle.refusal.specs.Refusal.{told}
+use Rattle.refusal.specs.declared.Refusal.{Refusal}
 use Rattle.trace.specs.declared.CircuitEvaluation.{CircuitEvaluation}
-use Rattle.trace.specs.declared.OpenAnswer.{OpenAnswer}
-use Rattle.trace.specs.declared.OpenAnswer.TheVariants.{Opened, Refused}
 use Rattle.trace.specs.Counts.{most_wires, wires, of_counts, with_room}
 use Rattle.trace.specs.State.{next_id}
 use Rattle.trace.specs.Outcome.{Lent, fits}
@@ -14,9 +14,8 @@ abbrev pub numbers_of : CircuitEvaluation → List ℕ
 numbers_of s = s.ctx ∷ s.clk ∷ s.num_read ∷ s.num_eval ∷ s.reads_done ∷ s.evals_done ∷ s.id_next ∷ []
 
 -- each case of an answer, by number, place and values
-abbrev pub open_told : OpenAnswer → Told
-open_told (Opened s) = accepted (numbers_of s)
-open_told (Refused number place) = refused number place
+abbrev pub open_told : Result CircuitEvaluation Refusal → Told
+open_told = told numbers_of
 
 -- the state before the first step
 abbrev pub opened : ℕ → ℕ → ℕ → ℕ → CircuitEvaluation

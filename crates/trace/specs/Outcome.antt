@@ -1,13 +1,13 @@
 -- What a call leaves: its answer, the state that it gives back, and the lent buffers.
 -- Assumes nothing.
-use Rattle.std.specs.Prelude.{ℕ, ◌+◌, ◌*◌, Bool, List, [], length, get_or, set}
+use Rattle.std.specs.Prelude.{ℕ, ◌+◌, ◌*◌, Bool, List, [], Result, Ok, Err, length, get_or, set}
 use Rattle.std.proofs.lemmas.List.Edits.{sets}
 use Rattle.refusal.specs.Told.{Told, accepted, refused}
+use Rattle.refusal.specs.Refusal.{number_of, place_of}
 use Rattle.field.specs.Pair.{Pair, pair, cells}
 use Rattle.trace.specs.Counts.{room}
 use Rattle.trace.specs.declared.CircuitEvaluation.{CircuitEvaluation}
-use Rattle.trace.specs.declared.StepAnswer.{StepAnswer}
-use Rattle.trace.specs.declared.StepAnswer.TheVariants.{Done, Refused}
+use Rattle.trace.specs.declared.RefusedStep.{RefusedStep}
 
 -- the lent value cells, counts and node cells
 pub record Lent : Type 0 where
@@ -31,9 +31,9 @@ abbrev pub outcome : Told → CircuitEvaluation → Lent → Outcome
 outcome t s b = record { told = t; state = s; buffers = b }
 
 -- each case of a step's answer, by number and place, with the buffers beside it
-abbrev pub step_outcome : StepAnswer → Lent → Outcome
-step_outcome (Done s) b = outcome (accepted []) s b
-step_outcome (Refused s number place) b = outcome (refused number place) s b
+abbrev pub step_outcome : Result CircuitEvaluation RefusedStep → Lent → Outcome
+step_outcome (Ok s) b = outcome (accepted []) s b
+step_outcome (Err e) b = outcome (refused (number_of e.refusal) (place_of e.refusal)) e.state b
 
 -- "a refused step": its state and buffers stay as they are here; else the step goes on
 abbrev pub unless_refused : Told → CircuitEvaluation → Lent → Outcome → Outcome

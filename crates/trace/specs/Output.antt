@@ -1,12 +1,12 @@
 -- The result of an evaluation: "13, 6, 11, 12, changing nothing".
 -- Assumes nothing.
-use Rattle.std.specs.Prelude.{ℕ, ◌-◌, Bool, cond, ◌&&◌, List, [], ◌∷◌, eqb}
+use Rattle.std.specs.Prelude.{ℕ, Result, ◌-◌, Bool, cond, ◌&&◌, List, [], ◌∷◌, eqb}
 use Rattle.refusal.specs.Told.{Told, accepted, refused}
+use Rattle.refusal.specs.Refusal.{told}
+use Rattle.refusal.specs.declared.Refusal.{Refusal}
 use Rattle.field.specs.Pair.{Pair}
 use Rattle.trace.specs.declared.CircuitEvaluation.{CircuitEvaluation}
 use Rattle.trace.specs.declared.RecordHeader.{RecordHeader}
-use Rattle.trace.specs.declared.OutputAnswer.{OutputAnswer}
-use Rattle.trace.specs.declared.OutputAnswer.TheVariants.{Zero, Refused}
 use Rattle.trace.specs.Counts.{with_room}
 use Rattle.trace.specs.State.{wires_of, made_of, sound, in_turn}
 use Rattle.trace.specs.Outcome.{Lent, fits, value_at}
@@ -25,9 +25,8 @@ header_of s = record {
 }
 
 -- each case of an answer, by number, place and values
-abbrev pub output_told : OutputAnswer → Told
-output_told (Zero h) = accepted (header_numbers h)
-output_told (Refused number place) = refused number place
+abbrev pub output_told : Result RecordHeader Refusal → Told
+output_told = told header_numbers
 
 abbrev pub is_zero : Pair → Bool
 is_zero v = eqb v.c0 0 && eqb v.c1 0

@@ -1,27 +1,23 @@
 -- A record: the header, and the lent buffers that hold its wires and nodes.
 -- Assumes nothing.
-use Rattle.std.specs.Prelude.{ℕ, ◌*◌, Bool, cond, ◌&&◌, List, [], ltb, leb, eqb, length, take}
+use Rattle.std.specs.Prelude.{ℕ, Result, ◌*◌, Bool, cond, ◌&&◌, List, [], ltb, leb, eqb, length, take}
 use Rattle.refusal.specs.Told.{Told, accepted, refused}
+use Rattle.refusal.specs.Refusal.{told, nothing}
+use Rattle.refusal.specs.declared.Refusal.{Refusal}
 use Rattle.field.specs.Field.{p, first_over}
 use Rattle.trace.specs.declared.CircuitEvaluation.{CircuitEvaluation}
 use Rattle.trace.specs.declared.RecordHeader.{RecordHeader}
-use Rattle.trace.specs.declared.Tested.{Tested}
-use Rattle.trace.specs.declared.Tested.TheVariants as tested
-use Rattle.trace.specs.declared.HeaderAnswer.{HeaderAnswer}
-use Rattle.trace.specs.declared.HeaderAnswer.TheVariants as header
 use Rattle.trace.specs.Counts.{wires, node_cells, room, with_room}
 use Rattle.trace.specs.State.{wires_of, made_of, sound, in_turn}
 use Rattle.trace.specs.Outcome.{Lent}
 use Rattle.trace.specs.Output.{header_numbers, header_of}
 
 -- each case of an answer, by number, place and values
-abbrev pub tested_told : Tested → Told
-tested_told tested.Passed = accepted []
-tested_told (tested.Refused number place) = refused number place
+abbrev pub tested_told : Result Unit Refusal → Told
+tested_told = told nothing
 
-abbrev pub header_told : HeaderAnswer → Told
-header_told (header.Header h) = accepted (header_numbers h)
-header_told (header.Refused number place) = refused number place
+abbrev pub header_told : Result RecordHeader Refusal → Told
+header_told = told header_numbers
 
 -- 19: "over 1,073,741,823 wires"
 abbrev pub most_record_wires : ℕ

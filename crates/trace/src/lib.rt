@@ -21,10 +21,10 @@ ghost use Rattle.trace.specs.Record.{tested_told, header_told, of_record, finali
 use crate::counts::test_counts;
 use crate::operation::before;
 use crate::state::has_room;
-use crate::wire_bus::Operand;
 use field::P;
 use field::cells::first_over;
-use instruction::{DecodeAnswer, NOT_INSTRUCTION, decode_instruction};
+use instruction::decode_instruction;
+use refusal::Refusal;
 
 pub const MAX_EVAL_CIRCUIT_WIRES: u32 = 1 << 15;
 
@@ -35,37 +35,7 @@ pub const READ_CELLS: usize = 7;
 
 pub const EVAL_CELLS: usize = 11;
 
-// The refusals of a circuit that is too large, of its count of READ steps and of EVAL steps.
-pub const TOO_MANY_WIRES: u32 = 1;
-
-pub const BAD_READ_COUNT: u32 = 2;
-
-pub const BAD_EVAL_COUNT: u32 = 3;
-
-// The refusal of a lent buffer that is too short.
-pub const SHORT_BUFFER: u32 = 6;
-
-// The refusals of an operand that is not yet made.
-pub const LEFT_NOT_MADE: u32 = 9;
-
-pub const RIGHT_NOT_MADE: u32 = 10;
-
-// The refusals of a result that is asked too soon, and of one that is not zero.
-pub const NOT_FINISHED: u32 = 11;
-
-pub const NOT_ZERO: u32 = 12;
-
-// The refusal of a step out of turn, or of a state that no calls give.
-pub const OUT_OF_TURN: u32 = 13;
-
-// The refusals of a record's cells, of the number of its wires, and of one without an EVAL node.
-pub const NOT_IN_FIELD: u32 = 17;
-
-pub const OVER_MAX_WIRES: u32 = 19;
-
-pub const NO_EVAL_NODE: u32 = 21;
-
-#[derive(Clone, Copy)]
+#[derive(Clone, Copy, Debug, PartialEq, Eq)]
 pub struct CircuitEvaluation {
     pub ctx: u32,
     pub clk: u32,
@@ -76,7 +46,7 @@ pub struct CircuitEvaluation {
     pub id_next: u64,
 }
 
-#[derive(Clone, Copy)]
+#[derive(Clone, Copy, Debug, PartialEq, Eq)]
 pub struct RecordHeader {
     pub ctx: u32,
     pub clk: u32,
@@ -85,39 +55,19 @@ pub struct RecordHeader {
     pub id_next: u64,
 }
 
-// The state before the first step, or the refusal's number and place.
-#[derive(Clone, Copy)]
-pub enum OpenAnswer {
-    Opened(CircuitEvaluation),
-    Refused(u32, u64),
+// What a refused step gives back: the state as it was, and the refusal.
+#[derive(Clone, Copy, Debug, PartialEq, Eq)]
+pub struct RefusedStep {
+    pub state: CircuitEvaluation,
+    pub refusal: Refusal,
 }
 
-// The state after the step; or the state as it was, and the refusal's number and place.
-#[derive(Clone, Copy)]
-pub enum StepAnswer {
-    Done(CircuitEvaluation),
-    Refused(CircuitEvaluation, u32, u64),
-}
+impl From<RefusedStep> for Refusal {
+    ghost from_gives = { λ step refusal. refusal ≡ step.refusal };
 
-// The record's header, where the last wire is zero, or the refusal's number and place.
-#[derive(Clone, Copy)]
-pub enum OutputAnswer {
-    Zero(RecordHeader),
-    Refused(u32, u64),
-}
-
-// A record's header, or the refusal's number and place.
-#[derive(Clone, Copy)]
-pub enum HeaderAnswer {
-    Header(RecordHeader),
-    Refused(u32, u64),
-}
-
-// What tests say: nothing, or the refusal's number and place.
-#[derive(Clone, Copy)]
-pub enum Tested {
-    Passed,
-    Refused(u32, u64),
+    fn from(step: RefusedStep) -> Refusal {
+        step.refusal
+    }
 }
 
 impl CircuitEvaluation {
@@ -130,21 +80,18 @@ impl CircuitEvaluation {
         values: &[u64],
         counts: &[u32],
         nodes: &[u64],
-    ) -> OpenAnswer
+    ) -> Result<Self, Refusal>
         ensures { open_told result ≡ open_answer ctx clk num_read num_eval (lent values.now counts.now nodes.now) }
     {
-        let tested = test_counts(num_read, num_eval);
-        if let Tested::Refused(number, place) = tested {
-            return OpenAnswer::Refused(number, place);
-        }
+        test_counts(num_read, num_eval)?;
         if !has_room(num_read, num_eval, values.len(), counts.len(), nodes.len()) {
-            return OpenAnswer::Refused(SHORT_BUFFER, 0);
+            return Err(Refusal::ShortBuffer);
         }
-        OpenAnswer::Opened(CircuitEvaluation {
-            ctx: ctx,
-            clk: clk,
-            num_read: num_read,
-            num_eval: num_eval,
+        Ok(CircuitEvaluation {
+            ctx,
+            clk,
+            num_read,
+            num_eval,
             reads_done: 0,
             evals_done: 0,
             id_next: 2 * num_read as u64 + num_eval as u64 - 1,
@@ -158,17 +105,20 @@ impl CircuitEvaluation {
         values: &mut [u64],
         counts: &mut [u32],
         nodes: &mut [u64],
-    ) -> StepAnswer
+    ) -> Result<Self, RefusedStep>
         ensures { step_outcome result (lent values.new counts.new nodes.new) ≡ read_step self ptr word (lent values.old counts.old nodes.old) }
     {
         let tested = self.test_read(ptr, word, values.len(), counts.len(), nodes.len());
-        if let Tested::Refused(number, place) = tested {
-            return StepAnswer::Refused(self, number, place);
+        if let Err(refusal) = tested {
+            return Err(RefusedStep {
+                state: self,
+                refusal,
+            });
         }
         self.read(ptr, word[0], word[1], values, counts, nodes);
         self.reads_done += 1;
         self.id_next -= 2;
-        StepAnswer::Done(self)
+        Ok(self)
     }
 
     pub fn do_eval(
@@ -178,43 +128,59 @@ impl CircuitEvaluation {
         values: &mut [u64],
         counts: &mut [u32],
         nodes: &mut [u64],
-    ) -> StepAnswer
+    ) -> Result<Self, RefusedStep>
         ensures { step_outcome result (lent values.new counts.new nodes.new) ≡ eval_step self ptr instruction (lent values.old counts.old nodes.old) }
     {
         let tested = self.test_eval(ptr, instruction, values.len(), counts.len(), nodes.len());
-        if let Tested::Refused(number, place) = tested {
-            return StepAnswer::Refused(self, number, place);
+        if let Err(refusal) = tested {
+            return Err(RefusedStep {
+                state: self,
+                refusal,
+            });
         }
         let gate = self.evals_done as u64;
-        let decoded = decode_instruction(instruction);
-        let DecodeAnswer::Instruction(id_l, id_r, op) = decoded else {
-            return StepAnswer::Refused(self, NOT_INSTRUCTION, gate);
+        let Ok((id_l, id_r, op)) = decode_instruction(instruction) else {
+            return Err(RefusedStep {
+                state: self,
+                refusal: Refusal::NotInstruction(gate),
+            });
         };
         let bus = self.wire_bus();
         // "As in the Rust, the left count is raised before the right operand is looked at, and
         // stays raised where the right is refused."
-        let left = bus.read_value(id_l as usize, LEFT_NOT_MADE, gate, values, counts);
+        let left = bus.read_value(id_l as usize, Refusal::LeftNotMade(gate), values, counts);
         let v_l = match left {
-            Operand::Value(v_0, v_1) => [v_0, v_1],
-            Operand::Refused(number, place) => return StepAnswer::Refused(self, number, place),
+            Ok(value) => value,
+            Err(refusal) => return Err(RefusedStep {
+                state: self,
+                refusal,
+            }),
         };
-        let right = bus.read_value(id_r as usize, RIGHT_NOT_MADE, gate, values, counts);
+        let right = bus.read_value(id_r as usize, Refusal::RightNotMade(gate), values, counts);
         let v_r = match right {
-            Operand::Value(v_0, v_1) => [v_0, v_1],
-            Operand::Refused(number, place) => return StepAnswer::Refused(self, number, place),
+            Ok(value) => value,
+            Err(refusal) => return Err(RefusedStep {
+                state: self,
+                refusal,
+            }),
         };
         self.gate(ptr, id_l, id_r, op, v_l, v_r, values, counts, nodes);
         self.evals_done += 1;
         self.id_next = before(self.id_next);
-        StepAnswer::Done(self)
+        Ok(self)
     }
 
     // "The result: 13, 6, 11, 12, changing nothing."
-    pub fn output_value(self, values: &[u64], counts: &[u32], nodes: &[u64]) -> OutputAnswer
+    pub fn output_value(
+        self,
+        values: &[u64],
+        counts: &[u32],
+        nodes: &[u64],
+    ) -> Result<RecordHeader, Refusal>
         ensures { output_told result ≡ output_answer self (lent values.now counts.now nodes.now) }
     {
         if !self.is_sound() {
-            return OutputAnswer::Refused(OUT_OF_TURN, 0);
+            return Err(Refusal::OutOfTurn);
         }
         if !has_room(
             self.num_read,
@@ -223,47 +189,47 @@ impl CircuitEvaluation {
             counts.len(),
             nodes.len(),
         ) {
-            return OutputAnswer::Refused(SHORT_BUFFER, 0);
+            return Err(Refusal::ShortBuffer);
         }
         let num_wires = self.num_wires();
         if self.made() != num_wires {
-            return OutputAnswer::Refused(NOT_FINISHED, 0);
+            return Err(Refusal::NotFinished);
         }
         if values[2 * (num_wires - 1)] != 0 {
-            return OutputAnswer::Refused(NOT_ZERO, 0);
+            return Err(Refusal::NotZero);
         }
         if values[2 * (num_wires - 1) + 1] != 0 {
-            return OutputAnswer::Refused(NOT_ZERO, 0);
+            return Err(Refusal::NotZero);
         }
-        OutputAnswer::Zero(self.header())
+        Ok(self.header())
     }
 
     // The header of a state whose steps are all done: "13 and 11 come before" what a record is
     // tested for. What the last wire holds is not asked.
-    pub fn finalized(self) -> HeaderAnswer
+    pub fn finalized(self) -> Result<RecordHeader, Refusal>
         ensures { header_told result ≡ finalized_answer self }
     {
         if !self.is_sound() {
-            return HeaderAnswer::Refused(OUT_OF_TURN, 0);
+            Err(Refusal::OutOfTurn)
+        } else if self.made() != self.num_wires() {
+            Err(Refusal::NotFinished)
+        } else {
+            Ok(self.header())
         }
-        if self.made() != self.num_wires() {
-            return HeaderAnswer::Refused(NOT_FINISHED, 0);
-        }
-        HeaderAnswer::Header(self.header())
     }
 }
 
 impl RecordHeader {
     // "21, 19, 6, 17 (a used value or node cell, or id_next, p or more)."
-    pub fn test(self, values: &[u64], counts: &[u32], nodes: &[u64]) -> Tested
+    pub fn test(self, values: &[u64], counts: &[u32], nodes: &[u64]) -> Result<(), Refusal>
         ensures { tested_told result ≡ of_record self (lent values.now counts.now nodes.now) (accepted []) }
     {
         if self.num_eval == 0 {
-            return Tested::Refused(NO_EVAL_NODE, 0);
+            return Err(Refusal::NoEvalNode);
         }
         let num_wires = 2 * self.num_read as usize + self.num_eval as usize;
         if (MAX_NUM_ACE_WIRES as usize) < num_wires {
-            return Tested::Refused(OVER_MAX_WIRES, 0);
+            return Err(Refusal::OverMaxWires);
         }
         if !has_room(
             self.num_read,
@@ -272,18 +238,18 @@ impl RecordHeader {
             counts.len(),
             nodes.len(),
         ) {
-            return Tested::Refused(SHORT_BUFFER, 0);
+            return Err(Refusal::ShortBuffer);
         }
         if first_over(values, 0, 2 * num_wires) < 2 * num_wires {
-            return Tested::Refused(NOT_IN_FIELD, 0);
+            return Err(Refusal::OutOfRange(0));
         }
         let cells = READ_CELLS * self.num_read as usize + EVAL_CELLS * self.num_eval as usize;
         if first_over(nodes, 0, cells) < cells {
-            return Tested::Refused(NOT_IN_FIELD, 0);
+            return Err(Refusal::OutOfRange(0));
         }
         if P <= self.id_next {
-            return Tested::Refused(NOT_IN_FIELD, 0);
+            return Err(Refusal::OutOfRange(0));
         }
-        Tested::Passed
+        Ok(())
     }
 }

@@ -4,33 +4,19 @@ ghost use Rattle.field.specs.Answer.{pair_of};
 ghost use Rattle.field.specs.Pair.{Elements, cells};
 ghost use Rattle.instruction.specs.Decode.{op_number};
 ghost use Rattle.field.specs.Field.{p, sub_f};
-ghost use Rattle.field.specs.Answer.{quad_told};
 ghost use Rattle.trace.specs.Eval.{combine, eval_op};
-ghost use Rattle.trace.specs.Inside.{value_told};
 
-use field::quad::QuadAnswer;
 use field::{P, quad};
 use instruction::Op;
 
+// What was found to be elements is not refused.
 pub fn apply(op: Op, v_l: [u64; 2], v_r: [u64; 2]) -> [u64; 2]
     requires { Elements (pair_of v_l) × Elements (pair_of v_r) }
     ensures { result ≡ cells (combine (op_number op) (pair_of v_l) (pair_of v_r)) }
 {
-    let op = opcode(op);
-    if op == 1 {
-        return value(quad::mul(v_l, v_r));
-    }
-    value(quad::add_or_sub(op == 0, v_l, v_r))
-}
-
-// "0 Sub, 1 Mul, 2 Add."
-fn opcode(op: Op) -> u64
-    ensures { result ≡ op_number op }
-{
     match op {
-        Op::Sub => 0,
-        Op::Mul => 1,
-        Op::Add => 2,
+        Op::Mul => quad::mul(v_l, v_r).unwrap(),
+        Op::Sub | Op::Add => quad::add_or_sub(op == Op::Sub, v_l, v_r).unwrap(),
     }
 }
 
@@ -43,16 +29,6 @@ pub fn eval_op(op: Op) -> u64
         Op::Mul => 0,
         Op::Add => 1,
     }
-}
-
-// The value, or zero of a refusal: what was found to be elements is not refused.
-fn value(answer: QuadAnswer) -> [u64; 2]
-    ensures { result ≡ value_told (quad_told answer) }
-{
-    let QuadAnswer::Value(v_0, v_1) = answer else {
-        return [0, 0];
-    };
-    [v_0, v_1]
 }
 
 // The id after this one, downwards; 0 - 1 is p - 1.

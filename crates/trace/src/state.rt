@@ -1,7 +1,7 @@
 // What a state and the lent buffers are tested for before a step.
 ghost use Rattle.std.specs.Prelude.{◌≡◌, [], ◌∷◌, ◌&&◌, ◌||◌, eqb, leb, ◌≤◌, ◌<◌};
 ghost use Rattle.refusal.specs.Told.{accepted};
-ghost use Rattle.field.specs.Field.{p, first_over};
+ghost use Rattle.field.specs.Field.{p};
 ghost use Rattle.field.specs.Answer.{of_elements};
 ghost use Rattle.trace.specs.Counts.{most_wires, room};
 ghost use Rattle.trace.specs.State.{wires_of, made_of, next_id, sound, read_turn, eval_turn};
@@ -11,11 +11,10 @@ ghost use Rattle.trace.specs.Output.{header_of};
 ghost use Rattle.trace.specs.Record.{tested_told};
 
 use crate::counts::test_counts;
-use crate::{
-    CircuitEvaluation, EVAL_CELLS, MAX_EVAL_CIRCUIT_WIRES, OUT_OF_TURN, READ_CELLS, RecordHeader,
-    SHORT_BUFFER, Tested,
-};
-use field::{NOT_ELEMENT, P, cells};
+use crate::{CircuitEvaluation, EVAL_CELLS, MAX_EVAL_CIRCUIT_WIRES, READ_CELLS, RecordHeader};
+use field::P;
+use field::cells::test_elements;
+use refusal::Refusal;
 
 // Whether buffers of these lengths hold the whole circuit.
 pub fn has_room(num_read: u32, num_eval: u32, values: usize, counts: usize, nodes: usize) -> bool
@@ -33,12 +32,11 @@ pub fn has_room(num_read: u32, num_eval: u32, values: usize, counts: usize, node
     READ_CELLS * reads + EVAL_CELLS * evals <= nodes
 }
 
-// The first of the numbers handed to a READ step that is p or more, the pointer being last.
-fn first_over(ptr: u64, word: [[u64; 2]; 2]) -> u64
-    ensures { result ≡ first_over (read_handed ptr word) }
+// The numbers handed to a READ step, the pointer being last.
+fn test_handed(ptr: u64, word: [[u64; 2]; 2]) -> Result<(), Refusal>
+    ensures { tested_told result ≡ of_elements (read_handed ptr word) (accepted []) }
 {
-    let handed = [word[0][0], word[0][1], word[1][0], word[1][1], ptr];
-    cells::first_over(&handed, 0, 5) as u64
+    test_elements(&[word[0][0], word[0][1], word[1][0], word[1][1], ptr])
 }
 
 impl CircuitEvaluation {
@@ -80,9 +78,9 @@ impl CircuitEvaluation {
     pub(crate) fn is_sound(self) -> bool
         ensures { result ≡ sound self }
     {
-        let Tested::Passed = test_counts(self.num_read, self.num_eval) else {
+        if test_counts(self.num_read, self.num_eval).is_err() {
             return false;
-        };
+        }
         if self.num_read < self.reads_done {
             return false;
         }
@@ -146,20 +144,16 @@ impl CircuitEvaluation {
         values: usize,
         counts: usize,
         nodes: usize,
-    ) -> Tested
+    ) -> Result<(), Refusal>
         ensures { tested_told result ≡ read_tests self (room self.num_read self.num_eval values counts nodes) ptr word }
     {
         if !self.in_read_turn() {
-            return Tested::Refused(OUT_OF_TURN, 0);
+            return Err(Refusal::OutOfTurn);
         }
         if !has_room(self.num_read, self.num_eval, values, counts, nodes) {
-            return Tested::Refused(SHORT_BUFFER, 0);
+            return Err(Refusal::ShortBuffer);
         }
-        let place = first_over(ptr, word);
-        if place < 5 {
-            return Tested::Refused(NOT_ELEMENT, place);
-        }
-        Tested::Passed
+        test_handed(ptr, word)
     }
 
     pub(crate) fn test_eval(
@@ -169,22 +163,16 @@ impl CircuitEvaluation {
         values: usize,
         counts: usize,
         nodes: usize,
-    ) -> Tested
+    ) -> Result<(), Refusal>
         ensures { tested_told result ≡ eval_tests self (room self.num_read self.num_eval values counts nodes) ptr instruction }
     {
         if !self.in_eval_turn() {
-            return Tested::Refused(OUT_OF_TURN, 0);
+            return Err(Refusal::OutOfTurn);
         }
         if !has_room(self.num_read, self.num_eval, values, counts, nodes) {
-            return Tested::Refused(SHORT_BUFFER, 0);
+            return Err(Refusal::ShortBuffer);
         }
-        if P <= instruction {
-            return Tested::Refused(NOT_ELEMENT, 0);
-        }
-        if P <= ptr {
-            return Tested::Refused(NOT_ELEMENT, 1);
-        }
-        Tested::Passed
+        test_elements(&[instruction, ptr])
     }
 }
 

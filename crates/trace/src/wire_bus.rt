@@ -1,28 +1,20 @@
 // The wires of a circuit in the lent value cells and counts.
 ghost use Rattle.std.specs.Prelude.{◌≡◌, [], ◌∷◌, ◌+◌, ◌*◌, ◌≤◌, ◌<◌, length, set};
 ghost use Rattle.std.proofs.lemmas.List.Edits.{sets};
+ghost use Rattle.refusal.specs.Refusal.{number_of, place_of};
 ghost use Rattle.field.specs.Answer.{pair_of};
 ghost use Rattle.field.specs.Pair.{cells};
 ghost use Rattle.trace.specs.Eval.{position, operand_answer};
 ghost use Rattle.trace.specs.Inside.{BusRoom, operand_told, counts_after, inserted};
 
-use crate::OUT_OF_TURN;
-use field::{NOT_ELEMENT, P};
-
-const MAX_COUNT: u32 = 4294967295;
+use field::P;
+use refusal::Refusal;
 
 // The wire with index `id` is stored at `num_wires - 1 - id`.
 #[derive(Clone, Copy)]
 pub struct WireBus {
     pub num_wires: usize,
     pub made: usize,
-}
-
-// An operand's value, or the refusal's number and place.
-#[derive(Clone, Copy)]
-pub enum Operand {
-    Value(u64, u64),
-    Refused(u32, u64),
 }
 
 impl WireBus {
@@ -46,40 +38,38 @@ impl WireBus {
         self
     }
 
-    // Reads the value of the wire with the given id, and raises its count. `number` is the refusal
-    // of a wire that is not made, and `gate` its place.
+    // Reads the value of the wire with the given id, and raises its count. `unmade` is the refusal of a wire that is not made.
     pub(crate) fn read_value(
         self,
         id: usize,
-        number: u32,
-        gate: u64,
+        unmade: Refusal,
         values: &[u64],
         counts: &mut [u32],
-    ) -> Operand
+    ) -> Result<[u64; 2], Refusal>
         requires { BusRoom self values.now counts.old }
-        ensures result_value { operand_told result ≡ operand_answer number gate self.num_wires self.made id values.now counts.old }
+        ensures result_value { operand_told result ≡ operand_answer (number_of unmade) (place_of unmade) self.num_wires self.made id values.now counts.old }
         ensures counts_after { counts.new ≡ counts_after (operand_told result) (position self.num_wires id) counts.old }
     {
         if self.num_wires <= id {
-            return Operand::Refused(number, gate);
+            return Err(unmade);
         }
         let at = self.num_wires - 1 - id;
         if self.made <= at {
-            return Operand::Refused(number, gate);
+            return Err(unmade);
         }
         let v_0 = values[2 * at];
         if P <= v_0 {
-            return Operand::Refused(NOT_ELEMENT, 2 * at as u64);
+            return Err(Refusal::NotElement(2 * at as u64));
         }
         let v_1 = values[2 * at + 1];
         if P <= v_1 {
-            return Operand::Refused(NOT_ELEMENT, 2 * at as u64 + 1);
+            return Err(Refusal::NotElement(2 * at as u64 + 1));
         }
         let count = counts[at];
-        if MAX_COUNT <= count {
-            return Operand::Refused(OUT_OF_TURN, 0);
+        if count == u32::MAX {
+            return Err(Refusal::OutOfTurn);
         }
         counts[at] = count + 1;
-        Operand::Value(v_0, v_1)
+        Ok([v_0, v_1])
     }
 }

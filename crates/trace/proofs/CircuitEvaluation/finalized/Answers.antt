@@ -14,5 +14,5 @@ returns-then-not-is_sound c = not_sound _ _ (sym c.is_sound.ensures ∙ c.if-not
 pub returns-then-made-num_wires : goal.returns-then-made-num_wires
 returns-then-made-num_wires c = not_finalized _ _ (sym c.is_sound.ensures ∙ c.if-not-is_sound.false) (search rules)
 
-pub returns : goal.returns
-returns c = ap (λ (h : RecordHeader). accepted (header_numbers h)) c.header.ensures ∙ is_finalized _ _ (sym c.is_sound.ensures ∙ c.if-not-is_sound.false) (search rules)
+pub returns-else-made-num_wires : goal.returns-else-made-num_wires
+returns-else-made-num_wires c = ap (λ (h : RecordHeader). accepted (header_numbers h)) c.header.ensures ∙ is_finalized _ _ (sym c.is_sound.ensures ∙ c.if-not-is_sound.false) (search rules)

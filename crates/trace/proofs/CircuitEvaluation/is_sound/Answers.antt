@@ -1,16 +1,12 @@
 -- `trace::CircuitEvaluation::is_sound` meets its contract.
 -- Assumes nothing.
-use mathlib.Core.Path.{sym, ap, ap₂, ◌∙◌}
-use Prim.Native.Nat.{ℕ}
-use lib.Dec.{eqb}
-use borrow.Author.Rules.{rules}
-use Rattle.trace.specs.Record.{tested_told}
+use Rattle.std.proofs.Common.{ℕ, sym, ap, ap₂, ◌∙◌, eqb, rules}
 use Rattle.trace.specs.State.{next_id}
-use Rattle.trace.proofs.Tests.{bad_counts, reads_past, evals_past, out_of_order, sound_by_id}
+use Rattle.trace.proofs.Tests.{refused_counts, taken_counts, reads_past, evals_past, out_of_order, sound_by_id}
 use Rattle.trace.proofs.CircuitEvaluation.is_sound.Goals as goal
 
-pub returns-in_default : goal.returns-in_default
-returns-in_default c = bad_counts _ _ _ (ap tested_told (sym c.in_default.is) ∙ c.test_counts.ensures)
+pub returns-then-is_err : goal.returns-then-is_err
+returns-then-is_err c = refused_counts _ _ c.test_counts.ensures (sym c.is_err.ensures.value ∙ c.if-is_err.true)
 
 pub returns-then-self : goal.returns-then-self
 returns-then-self c = reads_past _ (search rules)
@@ -26,8 +22,8 @@ returns c =
     ap (λ (n : ℕ). eqb c.args.self.id_next n)
     (c.next_id.ensures ∙ ap₂ next_id c.num_wires.ensures c.made.ensures)
     ∙ sound_by_id
-    _
-    (ap tested_told (sym c.in-Passed.is) ∙ c.test_counts.ensures)
+    c.args.self
+    (taken_counts c.args.self _ c.test_counts.ensures (sym c.is_err.ensures.value ∙ c.if-is_err.false))
     (search rules)
     (search rules)
     (sym c.in_order.ensures ∙ c.if-not-in_order.false)

@@ -17,8 +17,8 @@ returns-then-v_0-ge-P c = record { result_value = as_stored _ _ _ _ _ _ _ _ (sea
 pub returns-then-v_1-ge-P : goal.returns-then-v_1-ge-P
 returns-then-v_1-ge-P c = record { result_value = as_stored _ _ _ _ _ _ _ _ (search rules) (search rules) (second_over_p _ _ _ (search rules) (search rules)); counts_after = refl }
 
-pub returns-then-count-ge-MAX_COUNT : goal.returns-then-count-ge-MAX_COUNT
-returns-then-count-ge-MAX_COUNT c = record { result_value = as_stored _ _ _ _ _ _ _ _ (search rules) (search rules) (count_full _ _ _ (search rules) (search rules) (search rules)); counts_after = refl }
+pub returns-then-count : goal.returns-then-count
+returns-then-count c = record { result_value = as_stored _ _ _ _ _ _ _ _ (search rules) (search rules) (count_full _ _ _ (search rules) (search rules) (search rules)); counts_after = refl }
 
 pub returns : goal.returns
 returns c = record { result_value = as_stored _ _ _ _ _ _ _ _ (search rules) (search rules) (stored-value _ _ _ (search rules) (search rules) (search rules)); counts_after = refl }
