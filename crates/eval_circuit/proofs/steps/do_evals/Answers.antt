@@ -6,9 +6,6 @@ use native.Mathlib.Omega.{arith}
 use Rattle.eval_circuit.proofs.Turns.{eval_on, eval_off, gone_more, evals_end}
 use Rattle.eval_circuit.proofs.steps.do_evals.Goals as goal
 
-pub loop-i-init : goal.loop-i-init
-loop-i-init c = (c.requires.1, c.requires.2, (λ j h. absurd (omega arith)))
-
 pub returns-in_default : goal.returns-in_default
 returns-in_default c =
     let l = c.loop-i in
@@ -25,8 +22,7 @@ loop-i-preserved c =
     let d = eval_on _ _ _ _ c.requires.0 _ _ _ _ _ _ _ h c.do_eval-step.ensures l.invariant.0 refl refl l.invariant.1 l.invariant.2 _ c.in-Done.is in
     (d.1, d.2, gone_more _ _ _ _ c.requires.0 _ l.invariant.2 d.0)
 
-pub returns : goal.returns
-returns c =
+pub returns-clause-result_value : goal.returns-clause-result_value
+returns-clause-result_value c =
     let l = c.loop-i in
-    let end = evals_end _ _ _ _ c.requires.0 _ _ _ (omega arith) l.invariant.0 l.invariant.1 l.invariant.2 in
-    record { result_value = end.0; left = end.1 }
+    evals_end _ _ _ _ c.requires.0 _ (omega arith) l.invariant.2

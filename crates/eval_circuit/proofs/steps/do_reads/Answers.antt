@@ -3,7 +3,7 @@
 use mathlib.Core.Path.{refl, sym}
 use Prim.Native.Nat.{◌<◌}
 use native.Mathlib.Omega.{arith}
-use Rattle.eval_circuit.proofs.Turns.{read_on, read_off, reads_end}
+use Rattle.eval_circuit.proofs.Turns.{read_on, read_off}
 use Rattle.eval_circuit.proofs.Stages.{first_stage}
 use Rattle.eval_circuit.proofs.steps.do_reads.Goals as goal
 
@@ -23,6 +23,3 @@ loop-i-preserved c =
     let a = c.args in
     let h : l.i < a.state.num_read = omega arith in
     read_on _ _ _ _ c.requires.0 _ _ _ _ _ _ _ h c.do_read-step.ensures l.invariant.0 refl c.word_at-word.ensures l.invariant.1 _ c.in-Done.is
-
-pub returns : goal.returns
-returns c = let l = c.loop-i in reads_end _ _ _ _ c.requires.0 _ _ _ (omega arith) l.invariant.0 l.invariant.1
