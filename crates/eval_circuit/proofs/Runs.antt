@@ -1,6 +1,6 @@
 -- All READ steps, then all EVAL steps, then the result: what they come to together.
 -- Assumes nothing.
-use mathlib.Core.Path.{◌≡◌, refl, sym, ap, ap₂, ◌∙◌, subst}
+use mathlib.Core.Path.{◌≡◌, refl, sym, ap, ap₂, ◌∙◌}
 use mathlib.Core.Bool.{cond}
 use mathlib.Core.List.{List, [], ◌∷◌, ◌++◌}
 use mathlib.Core.Logic.{⊎_elim, inr}
@@ -16,7 +16,6 @@ use Rattle.trace.specs.declared.CircuitEvaluation.{CircuitEvaluation}
 use Rattle.trace.specs.declared.StepAnswer.{StepAnswer}
 use Rattle.trace.specs.declared.StepAnswer.TheVariants.{Done, Refused}
 use Rattle.trace.specs.declared.OutputAnswer.{OutputAnswer}
-use Rattle.trace.specs.declared.OutputAnswer.TheVariants as output
 use Rattle.trace.specs.Counts.{wires, node_cells}
 use Rattle.trace.specs.State.{wires_of, made_of, next_id}
 use Rattle.trace.specs.Outcome.{Lent, value_at}
@@ -26,10 +25,10 @@ use Rattle.trace.proofs.Answers.{lent_equal}
 use Rattle.eval_circuit.specs.Circuit.{Circuit, num_wires, value, gates_answer}
 use Rattle.eval_circuit.specs.Evaluated.{circuit_answer, id_at, value_cells, read_cells, eval_cells}
 use Rattle.field.specs.Lists.{each}
-use Rattle.eval_circuit.specs.Inside.{circuit_of, after, named_cell, stage, Past, Prepared, step_told, Left, Ran}
+use Rattle.eval_circuit.specs.Inside.{circuit_of, after, named_cell, stage, Past, Prepared, step_told, Left}
 use Rattle.field.proofs.Each.{each_then}
 use Rattle.eval_circuit.proofs.Gates.{Passed, First, gates_pass, gates_stop, gates_accepted, gates_refused}
-use Rattle.eval_circuit.proofs.Stages.{nodes-length, values_length, counts-length, after-sound, stage-values, stage-counts, stage-nodes, stage-fits}
+use Rattle.eval_circuit.proofs.Stages.{nodes-length, values_length, counts-length, after-sound, stage-fits}
 use Rattle.eval_circuit.proofs.GateSteps.{past_front}
 
 -- a stage on top of an earlier one
@@ -62,39 +61,15 @@ module _ (s : CircuitEvaluation) (memory : List ℕ) (ptr : ℕ) (b : Lent) (ok 
   abbrev reads : ℕ
   reads = s.num_read
 
-  -- what the READ steps leave is what the EVAL steps ask for
-  pub between : (t : CircuitEvaluation) (d : Lent) → t ≡ after s reads 0 → d ≡ stage c ptr reads 0 b
-      → Prepared t memory ptr d × (t ≡ after t t.num_read 0) × (d ≡ stage (circuit_of t memory ptr) ptr t.num_read 0 d)
-  between t d et ed =
-      let v = stage-values s memory ptr b ok reads 0 (omega arith) (omega arith) in
-      let u = stage-counts s memory ptr b ok reads 0 (omega arith) (omega arith) in
-      let n = stage-nodes s memory ptr b ok reads 0 (omega arith) (omega arith) in
-      rw (et, ed) (
-        record {
-          few = ok.few;
-          some_reads = ok.some_reads;
-          some_evals = ok.some_evals;
-          for_values = (let h = ok.for_values in omega arith);
-          for_counts = (let h = ok.for_counts in omega arith);
-          for_nodes = (let h = ok.for_nodes in omega arith);
-          region = ok.region;
-          addresses = ok.addresses;
-          elements = ok.elements;
-        },
-        refl,
-        sym (stage_over c ptr reads 0 b),
-      )
-
   left_over : (r : StepAnswer) (d : Lent) → Left r (after s reads 0) c ptr d (stage c ptr reads 0 b) → Left r s c ptr d b
   left_over (Done u) d l = (l.0, l.1 ∙ stage_over c ptr reads s.num_eval b)
   left_over (Refused u n k) d l = past_over c _ d (stage c ptr reads 0 b) b l (stage_past c ptr reads 0 _ b (omega arith) (omega arith))
 
   pub both_runs : (r : StepAnswer) (t : CircuitEvaluation) (d e : Lent) → t ≡ after s reads 0 → e ≡ stage c ptr reads 0 b
-      → (step_told r ≡ gates_answer t.num_eval 0 (circuit_of t memory ptr) (accepted [])) × Left r t (circuit_of t memory ptr) ptr d e
-      → (step_told r ≡ gates_answer s.num_eval 0 c (accepted [])) × Left r s c ptr d b
+      → Left r t (circuit_of t memory ptr) ptr d e → Left r s c ptr d b
   both_runs r t d e et ee h =
-      let g : (step_told r ≡ gates_answer s.num_eval 0 c (accepted [])) × Left r (after s reads 0) c ptr d (stage c ptr reads 0 b) = rw (et, ee) at h in
-      (g.0, left_over r d g.1)
+      let l : Left r (after s reads 0) c ptr d (stage c ptr reads 0 b) = rw (et, ee) at h in
+      left_over r d l
 
   -- the last wire has id 0
   last-value : value_at (stage c ptr reads s.num_eval b).values (wires_of s - 1) ≡ value c 0
@@ -125,26 +100,19 @@ module _ (s : CircuitEvaluation) (memory : List ℕ) (ptr : ℕ) (b : Lent) (ok 
 
   module _ (q : StepAnswer) (d : Lent) (g : step_told q ≡ gates_answer s.num_eval 0 c (accepted [])) (l : Left q s c ptr d b) where
     -- all steps accepted: the answer is the result's
-    pub run_done : (t : CircuitEvaluation) (r : OutputAnswer) → q ≡ Done t → output_told r ≡ output_answer t d → (output_told r ≡ circuit_answer s.ctx s.clk c) × Ran r s c ptr d b
+    pub run_done : (t : CircuitEvaluation) (r : OutputAnswer) → q ≡ Done t → output_told r ≡ output_answer t d → output_told r ≡ circuit_answer s.ctx s.clk c
     run_done t r e o =
         let g' : accepted [] ≡ gates_answer s.num_eval 0 c (accepted []) = rw e at g in
         let l' : Left (Done t) s c ptr d b = rw e at l in
         let a = gates_accepted c (accepted []) s.num_eval 0 [] (sym g') in
         let i : output_told r ≡ output_answer (after s reads s.num_eval) (stage c ptr reads s.num_eval b) = o ∙ ap₂ output_answer l'.0 l'.1 in
-        (i ∙ output-is ∙ sym (gates_pass c _ s.num_eval 0 a.0), ran r l'.1)
-      where
-        ran : (r : OutputAnswer) → d ≡ stage c ptr reads s.num_eval b → Ran r s c ptr d b
-        ran (output.Zero h) e = e
-        ran (output.Refused n k) e = subst (λ (x : Lent). Past c (node_cells reads s.num_eval) x b) (sym e) (stage_past c ptr reads s.num_eval _ b (omega arith) (omega arith))
+        i ∙ output-is ∙ sym (gates_pass c _ s.num_eval 0 a.0)
 
     -- a gate refused: so is the evaluation
-    pub run_refused : (t : CircuitEvaluation) (n k : ℕ) → q ≡ Refused t n k → (refused n k ≡ circuit_answer s.ctx s.clk c) × Ran (output.Refused n k) s c ptr d b
+    pub run_refused : (t : CircuitEvaluation) (n k : ℕ) → q ≡ Refused t n k → refused n k ≡ circuit_answer s.ctx s.clk c
     run_refused t n k e =
         let g' : refused n k ≡ gates_answer s.num_eval 0 c (accepted []) = rw e at g in
-        let l' : Left (Refused t n k) s c ptr d b = rw e at l in (
-          ⊎_elim
-              (λ (f : First c 0 s.num_eval n k). sym (gates_stop c _ s.num_eval 0 n k f))
-              (λ (a : Passed c 0 s.num_eval × (accepted [] ≡ refused n k)). clash (sym a.1))
-              (gates_refused c (accepted []) s.num_eval 0 n k (sym g')),
-          l',
-        )
+        ⊎_elim
+        (λ (f : First c 0 s.num_eval n k). sym (gates_stop c _ s.num_eval 0 n k f))
+        (λ (a : Passed c 0 s.num_eval × (accepted [] ≡ refused n k)). clash (sym a.1))
+        (gates_refused c (accepted []) s.num_eval 0 n k (sym g'))

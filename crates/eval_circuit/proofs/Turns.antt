@@ -63,10 +63,6 @@ module _ (s : CircuitEvaluation) (memory : List ℕ) (ptr : ℕ) (b : Lent) (ok 
     pub read_off : (u : CircuitEvaluation) (n j : ℕ) (o : Outcome) → r ≡ Refused u n j → step_outcome r left ≡ o
     read_off u n j o d = not_refused r u _ n j left _ read_is d
 
-  pub reads_end : (i : ℕ) (t : CircuitEvaluation) (d : Lent) → i ≡ s.num_read → t ≡ after s i 0 → d ≡ stage c ptr i 0 b
-      → outcome (accepted []) t d ≡ outcome (accepted []) (after s s.num_read 0) (stage c ptr s.num_read 0 b)
-  reads_end i t d e et ed = rw (et, ed, e)
-
   -- what the gates before gate k say
   abbrev pub Gone : ℕ → Type 0
   Gone k = (j : ℕ) → j < k → gate_answer c j ≡ accepted []
@@ -107,9 +103,5 @@ module _ (s : CircuitEvaluation) (memory : List ℕ) (ptr : ℕ) (b : Lent) (ok 
       (λ (l : k ≤ j). let q : k ≡ j = omega arith in subst (λ (i : ℕ). gate_answer c i ≡ accepted []) q e)
       (below? j k)
 
-  pub evals_end : (k : ℕ) (t : CircuitEvaluation) (d : Lent) → k ≡ s.num_eval → t ≡ after s s.num_read k → d ≡ stage c ptr s.num_read k b → Gone k
-      → (accepted [] ≡ gates_answer s.num_eval 0 c (accepted [])) × Left (Done t) s c ptr d b
-  evals_end k t d e et ed g = (
-    sym (gates_pass c (accepted []) s.num_eval 0 (λ j _ h. g j (omega arith))),
-    (et ∙ ap (λ (n : ℕ). after s s.num_read n) e, ed ∙ ap (λ (n : ℕ). stage c ptr s.num_read n b) e),
-  )
+  pub evals_end : (k : ℕ) → k ≡ s.num_eval → Gone k → accepted [] ≡ gates_answer s.num_eval 0 c (accepted [])
+  evals_end k e g = sym (gates_pass c (accepted []) s.num_eval 0 (λ j _ h. g j (omega arith)))

@@ -43,5 +43,5 @@ pub fn test_region(ptr: u64, num_vars: u64, num_eval: u64, len: usize) -> Tested
 fn cells_counted(len: usize) -> usize
     ensures { result ≡ cells_counted len }
 {
-    if MOST_CELLS < len { MOST_CELLS } else { len }
+    len.min(MOST_CELLS)
 }

@@ -31,11 +31,9 @@ fn do_reads(
     requires { Prepared state memory.now start (lent values.old counts.old nodes.old) × (state ≡ after state 0 0) }
     ensures { step_outcome result (lent values.new counts.new nodes.new) ≡ outcome (accepted []) (after state state.num_read 0) (stage (circuit_of state memory.now start) start state.num_read 0 (lent values.old counts.old nodes.old)) }
 {
-    let num_read = state.num_read as usize;
     let mut read = state;
-    let mut at = start;
-    let mut i: usize = 0;
-    while i < num_read {
+    for i in 0..state.num_read as usize {
+        let at = start + 4 * i;
         let word = word_at(memory, at);
         let step = read.do_read(at as u64, word, values, counts, nodes);
         let StepAnswer::Done(next) = step else {
@@ -44,8 +42,6 @@ fn do_reads(
         // A step leaves the rest of the state as it is, and not copying it is faster.
         read.reads_done = next.reads_done;
         read.id_next = next.id_next;
-        at += 4;
-        i += 1;
     }
     StepAnswer::Done(read)
 }
@@ -62,19 +58,16 @@ fn do_evals(
     ensures result_value { step_told result ≡ gates_answer state.num_eval 0 (circuit_of state memory.now start) (accepted []) }
     ensures left { Left result state (circuit_of state memory.now start) start (lent values.new counts.new nodes.new) (lent values.old counts.old nodes.old) }
 {
-    let num_eval = state.num_eval as usize;
+    let gates = start + 4 * state.num_read as usize;
     let mut made = state;
-    let mut at = start + 4 * state.num_read as usize;
-    let mut i: usize = 0;
-    while i < num_eval {
+    for i in 0..state.num_eval as usize {
+        let at = gates + i;
         let step = made.do_eval(at as u64, memory[at], values, counts, nodes);
         let StepAnswer::Done(next) = step else {
             return step;
         };
         made.evals_done = next.evals_done;
         made.id_next = next.id_next;
-        at += 1;
-        i += 1;
     }
     StepAnswer::Done(made)
 }

@@ -2,8 +2,7 @@
 -- Assumes nothing.
 use mathlib.Core.List.{[]}
 use mathlib.Core.Path.{◌≡◌}
-use Prim.Native.Nat.{ℕ, ◌+◌, ◌-◌, ◌*◌, ◌≤◌, ◌<◌}
-use lib.ListN.{length}
+use Prim.Native.Nat.{ℕ, ◌<◌}
 use Rattle.refusal.specs.Told.{accepted}
 use Rattle.trace.specs.Outcome.{lent}
 use Rattle.eval_circuit.specs.Circuit.{gate_answer}
@@ -12,14 +11,6 @@ use Rattle.eval_circuit.proofs.steps.do_evals.Given as goal
 
 abbrev pub invariant-loop-i : goal.invariant-loop-i
 invariant-loop-i l =
-    (l.i ≤ l.num_eval)
-    × (l.at ≡ l.start + 4 * l.initial.made.num_read + l.i)
-    × (l.made ≡ after l.initial.made l.initial.made.num_read l.i)
+    (l.made ≡ after l.initial.made l.initial.made.num_read l.i)
     × (lent l.values l.counts l.nodes ≡ stage (circuit_of l.initial.made l.memory l.start) l.start l.initial.made.num_read l.i (lent l.initial.values l.initial.counts l.initial.nodes))
     × ((j : ℕ) → j < l.i → gate_answer (circuit_of l.initial.made l.memory l.start) j ≡ accepted [])
-    × (length l.values ≡ length l.initial.values)
-    × (length l.counts ≡ length l.initial.counts)
-    × (length l.nodes ≡ length l.initial.nodes)
-
-abbrev pub decreases-loop-i : goal.decreases-loop-i
-decreases-loop-i l = l.num_eval - l.i

@@ -4,8 +4,12 @@ use Rattle.trace.specs.Outcome.{lent}
 use Rattle.eval_circuit.proofs.Runs.{run_done, run_refused}
 use Rattle.eval_circuit.proofs.steps.run.Goals as goal
 
-pub returns-in-Done : goal.returns-in-Done
-returns-in-Done c = record { result_value = (run_done _ _ _ _ c.requires.0 _ (lent c.do_steps-steps.new.values c.do_steps-steps.new.counts c.do_steps-steps.new.nodes) c.do_steps-steps.ensures.result_value c.do_steps-steps.ensures.left _ c.output_value.result c.in-Done.is c.output_value.ensures).0; ran = (run_done _ _ _ _ c.requires.0 _ (lent c.do_steps-steps.new.values c.do_steps-steps.new.counts c.do_steps-steps.new.nodes) c.do_steps-steps.ensures.result_value c.do_steps-steps.ensures.left _ c.output_value.result c.in-Done.is c.output_value.ensures).1 }
+pub returns-in-Done-clause-result_value : goal.returns-in-Done-clause-result_value
+returns-in-Done-clause-result_value c =
+    let steps = c.do_steps-steps in
+    run_done _ _ _ _ c.requires.0 _ (lent steps.new.values steps.new.counts steps.new.nodes) steps.ensures.result_value steps.ensures.left _ c.output_value.result c.in-Done.is c.output_value.ensures
 
-pub returns-in-Refused : goal.returns-in-Refused
-returns-in-Refused c = record { result_value = (run_refused _ _ _ _ c.requires.0 _ (lent c.do_steps-steps.new.values c.do_steps-steps.new.counts c.do_steps-steps.new.nodes) c.do_steps-steps.ensures.result_value c.do_steps-steps.ensures.left _ _ _ c.in-Refused.is).0; ran = (run_refused _ _ _ _ c.requires.0 _ (lent c.do_steps-steps.new.values c.do_steps-steps.new.counts c.do_steps-steps.new.nodes) c.do_steps-steps.ensures.result_value c.do_steps-steps.ensures.left _ _ _ c.in-Refused.is).1 }
+pub returns-in-Refused-clause-result_value : goal.returns-in-Refused-clause-result_value
+returns-in-Refused-clause-result_value c =
+    let steps = c.do_steps-steps in
+    run_refused _ _ _ _ c.requires.0 _ (lent steps.new.values steps.new.counts steps.new.nodes) steps.ensures.result_value steps.ensures.left _ _ _ c.in-Refused.is
