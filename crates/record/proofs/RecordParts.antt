@@ -42,3 +42,6 @@ module _ (h : RecordHeader) (b : Lent) where
         taken_append (read_cells h b) behind_reads,
         taken_append (h.num_eval ∷ []) (eval_cells h b),
       )
+
+  pub in_order : heads ++ wire_list ++ (record_wires h ∷ h.num_read ∷ []) ++ read_cells h b ++ (h.num_eval ∷ []) ++ eval_cells h b ≡ record_numbers h b
+  in_order = simp append_assoc
