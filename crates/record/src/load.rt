@@ -61,6 +61,22 @@ fn load_nodes(source: &[u8], at: usize, width: usize, nodes: &mut [u64]) -> (u64
     (len, next)
 }
 
+#[tactic(auto, unfolding(
+    crate::specs::Numbers::after,
+    crate::specs::Numbers::numbers_from,
+    crate::specs::Reading::ctx_in,
+    crate::specs::Reading::clk_in,
+    crate::specs::Reading::id_next_in,
+    crate::specs::Reading::wires_in,
+    crate::specs::Reading::wires_at,
+    crate::specs::Reading::declared_at,
+    crate::specs::Reading::read_list_at,
+    crate::specs::Reading::reads_in,
+    crate::specs::Reading::reads_at,
+    crate::specs::Reading::eval_list_at,
+    crate::specs::Reading::evals_in,
+    crate::specs::Reading::evals_at
+))]
 pub fn load(
     source: &[u8],
     values: &mut [u64],
