@@ -39,7 +39,6 @@ use Rattle.record.proofs.Bounds.{AllBelow, below_wider, below_append, each_below
 use Rattle.record.proofs.Sequence.{Stand, written_stand}
 use Rattle.record.proofs.WireList.{wires-used}
 use Rattle.record.proofs.RecordParts.{wire_list, read_list, eval_list}
-use Rattle.record.proofs.Loads.{header_is}
 use Rattle.record.proofs.Tests.{declared_is, ends}
 use Rattle.record.proofs.Fields.{fields_end}
 use Rattle.record.proofs.FieldsFound.{values_in, counts_in, read_cells_in, eval_cells_in}
@@ -209,7 +208,7 @@ bytes_read h b r x l c values counts nodes f =
     let es = evals h b r x l c s st values counts nodes f in
     record {
       answer = fields h b r x l c s st values counts nodes f;
-      header = header_is s _ _ _ _ _ hd.ctx_is hd.clk_is ns.reads_are es.evals_are hd.id_is;
+      header = cc (hd.ctx_is, hd.clk_is, ns.reads_are, es.evals_are, hd.id_is);
       values_are = ls.values_are;
       counts_are = ls.counts_are;
       nodes_are =

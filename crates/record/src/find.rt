@@ -18,14 +18,12 @@ fn find_numbers(source: &[u8], at: usize, n: usize, bound: u64) -> ReadAnswer
     ensures { read_told result ≡ numbers_answer bound n source.now at }
 {
     let mut next = at;
-    let mut i: usize = 0;
-    while i < n {
+    for _ in 0..n {
         let found = read_below(source, next, bound);
         let ReadAnswer::Number(_, after) = found else {
             return found;
         };
         next = after;
-        i += 1;
     }
     ReadAnswer::Number(0, next)
 }
@@ -50,8 +48,7 @@ fn find_wires(source: &[u8], at: usize, n: usize) -> ReadAnswer
     ensures { read_told result ≡ wires_answer n source.now at }
 {
     let mut next = at;
-    let mut i: usize = 0;
-    while i < n {
+    for _ in 0..n {
         let value = find_numbers(source, next, 2, P);
         let ReadAnswer::Number(_, count_at) = value else {
             return value;
@@ -61,7 +58,6 @@ fn find_wires(source: &[u8], at: usize, n: usize) -> ReadAnswer
             return count;
         };
         next = after;
-        i += 1;
     }
     ReadAnswer::Number(0, next)
 }
