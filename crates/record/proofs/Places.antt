@@ -12,6 +12,7 @@ use Rattle.field.specs.Told.{accepted, refused}
 use Rattle.field.proofs.Tellings.{clash}
 use Rattle.numbers.specs.Form.{Found, found, cut_off, not_shortest, find_from}
 use Rattle.numbers.specs.Answer.{found_at, within, read_answer, read_below_answer}
+use Rattle.numbers.proofs.Below.{below_is_read}
 use Rattle.trace.proofs.Choices.{passes}
 use Rattle.record.specs.Numbers.{number_told, next_told, number_at, next_at, after, numbers_from}
 
@@ -24,6 +25,9 @@ module _ (s : List ℕ) (at : ℕ) where
   pub next_is : (v next : ℕ) → read_answer s at ≡ accepted (v ∷ next ∷ []) → next ≡ next_at s at
   unfolding next_at
   next_is v next e = ap (next_told at) (sym e)
+
+  pub below_found : (bound v next : ℕ) → read_below_answer bound s at ≡ accepted (v ∷ next ∷ []) → (v ≡ number_at s at) × (next ≡ next_at s at)
+  below_found bound v next e = let r = (below_is_read bound s at v next e).read in (number_is v next r, next_is v next r)
 
   -- a number that is accepted, and one that is accepted below a bound
   pub read_of : (vs : List ℕ) → read_answer s at ≡ accepted vs → read_answer s at ≡ accepted (number_at s at ∷ next_at s at ∷ [])

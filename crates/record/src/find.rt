@@ -29,6 +29,7 @@ fn find_numbers(source: &[u8], at: usize, n: usize, bound: u64) -> ReadAnswer
 }
 
 // ctx, clk, id_next, and the wire list's length.
+#[tactic(auto, using(crate::proofs::Ways::goes_on, crate::proofs::Ways::stops), unfolding(crate::specs::Reading::head_answer))]
 fn find_head(source: &[u8]) -> ReadAnswer
     ensures { read_told result ≡ head_answer source.now }
 {
@@ -62,6 +63,7 @@ fn find_wires(source: &[u8], at: usize, n: usize) -> ReadAnswer
     ReadAnswer::Number(0, next)
 }
 
+#[tactic(auto, unfolding(crate::specs::Reading::wire_list_answer))]
 fn find_wire_list(source: &[u8], at: usize, n: u64, values: usize, counts: usize) -> ReadAnswer
     ensures { read_told result ≡ wire_list_answer n source.now at values counts }
 {
@@ -75,6 +77,7 @@ fn find_wire_list(source: &[u8], at: usize, n: u64, values: usize, counts: usize
 }
 
 // "After the declared count 18, 19, 20."
+#[tactic(auto, using(crate::proofs::Ways::goes_on, crate::proofs::Ways::stops), unfolding(crate::specs::Reading::declared_answer))]
 fn find_declared(source: &[u8], at: usize, n: u64) -> ReadAnswer
     ensures { read_told result ≡ declared_answer n source.now at }
 {
@@ -114,6 +117,7 @@ fn find_nodes(source: &[u8], at: usize, used: usize, width: usize, nodes: usize)
 }
 
 // "At the end 21, 19, 22, 23."
+#[tactic(auto, unfolding(crate::specs::Reading::end_answer))]
 fn find_end(reads: u64, evals: u64, declared: u64, end: usize, len: usize) -> ReadAnswer
     ensures { read_told result ≡ end_answer reads evals declared end len }
 {
