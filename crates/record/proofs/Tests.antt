@@ -85,7 +85,7 @@ node_room used width nodes len u w h =
     let q : len * width ≤ nodes - used = (le-div_iff_mul-le {k = width} {x = len} {y = nodes - used} w).0 h in
     omega (arith, q, mul_comm width len)
 
-no_node_room : (used width nodes len : ℕ) → used ≤ nodes → 0 < width → (nodes - used) / width < len → nodes < used + width * len
+pub no_node_room : (used width nodes len : ℕ) → used ≤ nodes → 0 < width → (nodes - used) / width < len → nodes < used + width * len
 no_node_room used width nodes len u w h =
     let q : nodes - used < len * width = (div-lt_iff_lt-mul {k = width} {x = nodes - used} {y = len} w).0 h in
     omega (arith, q, mul_comm width len)

@@ -98,6 +98,7 @@ fn find_declared(source: &[u8], at: usize, n: u64) -> ReadAnswer
 }
 
 // A list of nodes of `width` cells each, where `used` of the node cells are taken before it.
+#[tactic(auto, using(crate::proofs::Ways::goes_on, crate::proofs::Ways::stops), unfolding(crate::specs::Reading::nodes_answer))]
 fn find_nodes(source: &[u8], at: usize, used: usize, width: usize, nodes: usize) -> ReadAnswer
     requires { (used ≤ nodes) × (0 < width) }
     ensures { read_told result ≡ nodes_answer used width nodes source.now at }
@@ -140,6 +141,7 @@ fn find_end(reads: u64, evals: u64, declared: u64, end: usize, len: usize) -> Re
     ReadAnswer::Number(declared, end)
 }
 
+#[tactic(auto, using(crate::proofs::Ways::goes_on, crate::proofs::Ways::stops), unfolding(crate::specs::Reading::fields_answer))]
 pub fn find(source: &[u8], values: usize, counts: usize, nodes: usize) -> ReadAnswer
     ensures { read_told result ≡ fields_answer source.now values counts nodes }
 {
