@@ -1,21 +1,19 @@
 -- Looking at a record's head, ctx, clk, id_next and the wire list's length, and at the wire list behind it.
 -- Assumes nothing.
-use Prim.Native.Nat.{ℕ, ◌*◌, ◌/◌, ◌≤◌, ◌<◌}
-use mathlib.Core.Path.{◌≡◌, refl, sym, ap, ◌∙◌}
+use Prim.Native.Nat.{ℕ, ◌*◌, ◌≤◌, ◌<◌}
+use mathlib.Core.Path.{◌≡◌, refl, sym, ◌∙◌}
 use mathlib.Core.List.{List, [], ◌∷◌}
-use native.Mathlib.Omega.{arith}
 use lib.Dec.{leb}
-use borrow.Author.Tests.{leb-true, le-leb, lt-leb}
-use Rattle.field.specs.Told.{accepted, refused, or_else}
+use borrow.Author.Tests.{leb-true, le-leb}
+use Rattle.field.specs.Told.{accepted}
 use Rattle.field.specs.Field.{p}
-use Rattle.numbers.specs.Answer.{read_answer}
-use Rattle.trace.proofs.Choices.{both, both_hold, first_fails, second_fails, passes}
-use Rattle.record.specs.Numbers.{after, numbers_from, numbers_answer}
+use Rattle.trace.proofs.Choices.{both, both_hold, passes}
+use Rattle.record.specs.Numbers.{after, numbers_from}
 use Rattle.record.specs.Reading.{u32, ctx_in, clk_in, id_next_in, wires_in, wires_at, head_answer, wires_answer, wire_list_answer}
-use Rattle.record.proofs.Ways.{values_are, goes_on, stops, passed}
+use Rattle.record.proofs.Ways.{values_are, passed}
 use Rattle.record.proofs.Places.{read_of}
 use Rattle.record.proofs.Sequence.{Stand}
-use Rattle.record.proofs.Numbers.{numbers_of, place_after, place_behind}
+use Rattle.record.proofs.Numbers.{numbers_of}
 use Rattle.record.proofs.WireList.{wires_accepted}
 
 -- a head that is accepted

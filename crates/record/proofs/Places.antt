@@ -8,7 +8,7 @@ use native.Mathlib.Numerals.{add-one}
 use lib.Dec.{ltb}
 use lib.ListN.{length, drop}
 use borrow.Author.Tests.{ltb-true}
-use Rattle.field.specs.Told.{accepted, refused}
+use Rattle.field.specs.Told.{accepted}
 use Rattle.field.proofs.Tellings.{clash}
 use Rattle.numbers.specs.Form.{Found, found, cut_off, not_shortest, find_from}
 use Rattle.numbers.specs.Answer.{found_at, within, read_answer, read_below_answer}
@@ -91,10 +91,6 @@ from_last (suc n) s at = ap (λ (l : List ℕ). number_at s at ∷ l) (from_last
 
 pub from_next : (n : ℕ) (s : List ℕ) (at : ℕ) → numbers_from (n + 1) s at ≡ numbers_from n s at ++ (number_at s (after n s at) ∷ [])
 from_next n s at = rw (add-one n) (from_last n s at)
-
-pub from_two : (s : List ℕ) (at : ℕ) → numbers_from 2 s at ≡ number_at s at ∷ number_at s (next_at s at) ∷ []
-unfolding numbers_from
-from_two s at = refl
 
 pub length_from : (n : ℕ) (s : List ℕ) (at : ℕ) → length (numbers_from n s at) ≡ n
 unfolding numbers_from

@@ -1,17 +1,15 @@
 -- The parts of a record, and how many bytes they take.
 -- Assumes nothing.
-use mathlib.Core.Path.{◌≡◌, ap, ◌∙◌}
+use mathlib.Core.Path.{◌≡◌}
 use mathlib.Core.List.{List, [], ◌∷◌, ◌++◌, append_assoc}
-use Prim.Native.Nat.{ℕ, ◌+◌, ◌≤◌}
+use Prim.Native.Nat.{ℕ, ◌+◌}
 use native.Mathlib.Omega.{arith}
 use lib.ListN.{length}
-use lib.Seq.{sets}
 use Rattle.field.specs.Lists.{each}
-use Rattle.numbers.specs.Form.{width_of}
 use Rattle.trace.specs.declared.RecordHeader.{RecordHeader}
 use Rattle.trace.specs.Outcome.{Lent}
 use Rattle.trace.specs.Record.{record_wires}
-use Rattle.record.specs.Bytes.{bytes_of_all, wire_numbers, read_cells, eval_cells, record_numbers, record_bytes}
+use Rattle.record.specs.Bytes.{wire_numbers, read_cells, eval_cells, record_numbers, record_bytes}
 use Rattle.record.proofs.Widths.{taken, taken_append}
 
 module _ (h : RecordHeader) (b : Lent) where

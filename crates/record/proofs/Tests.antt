@@ -1,25 +1,23 @@
 -- Looking at the declared count, at a list of nodes, and at the end.
 -- Assumes nothing.
 use Prim.Native.Nat.{ℕ, ◌+◌, ◌-◌, ◌*◌, ◌/◌, ◌≤◌, ◌<◌}
-use mathlib.Core.Path.{◌≡◌, sym, ap, ap₂, ◌∙◌}
-use mathlib.Core.Bool.{cond}
+use mathlib.Core.Path.{◌≡◌}
 use mathlib.Core.List.{List, [], ◌∷◌}
 use native.Mathlib.Nat.{mul_comm, le-div_iff_mul-le, div-lt_iff_lt-mul}
 use native.Mathlib.Omega.{arith}
 use lib.Dec.{ltb, leb, eqb}
-use borrow.Author.Tests.{leb-true, ltb-false, eqb-true, eqb-false, lt-ltb, le-ltb, le-leb, lt-leb, eq-eqb, ne_eqb}
-use Rattle.field.specs.Told.{Told, accepted, refused, or_else}
+use borrow.Author.Tests.{leb-true, ltb-false, eqb-true, eqb-false}
+use Rattle.field.specs.Told.{accepted}
 use Rattle.field.specs.Field.{p}
 use Rattle.numbers.specs.Answer.{read_answer, read_below_answer}
-use Rattle.numbers.proofs.Below.{below_is_read}
 use Rattle.trace.specs.Counts.{wires}
 use Rattle.trace.specs.Record.{most_record_wires}
 use Rattle.trace.proofs.Choices.{passes, not_stopped}
 use Rattle.record.specs.Numbers.{number_at, next_at, after, numbers_answer}
-use Rattle.record.specs.Reading.{u32, within_room, declared_answer, nodes_answer, end_answer}
-use Rattle.record.proofs.Ways.{values_are, goes_on, stops, passed}
-use Rattle.record.proofs.Places.{number_is, next_is, read_of, below_of}
-use Rattle.record.proofs.Numbers.{FoundBelow, numbers_of, place_after}
+use Rattle.record.specs.Reading.{u32, declared_answer, nodes_answer, end_answer}
+use Rattle.record.proofs.Ways.{values_are, passed}
+use Rattle.record.proofs.Places.{read_of, below_of}
+use Rattle.record.proofs.Numbers.{FoundBelow, numbers_of}
 
 -- a declared count that is accepted, behind a list of n wires
 pub record Declared (n : ℕ) (s : List ℕ) (at : ℕ) (vs : List ℕ) : Type 0 where

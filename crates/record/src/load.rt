@@ -5,7 +5,7 @@ ghost use Rattle.trace.specs.Outcome.{lent};
 ghost use Rattle.trace.specs.Output.{header_numbers};
 ghost use Rattle.record.specs.Numbers.{number_at, next_at, after, numbers_from};
 ghost use Rattle.record.specs.Reading.{values_from, counts_from, header_in, record_in};
-ghost use Rattle.record.specs.Inside.{Wires, eval_list_from, node_cells_from, nodes_from, Found};
+ghost use Rattle.record.specs.Inside.{Wires, Found};
 
 use numbers::{ReadAnswer, read};
 use trace::{EVAL_CELLS, READ_CELLS, RecordHeader};
@@ -61,22 +61,7 @@ fn load_nodes(source: &[u8], at: usize, width: usize, nodes: &mut [u64]) -> (u64
     (len, next)
 }
 
-#[tactic(auto, unfolding(
-    crate::specs::Numbers::after,
-    crate::specs::Numbers::numbers_from,
-    crate::specs::Reading::ctx_in,
-    crate::specs::Reading::clk_in,
-    crate::specs::Reading::id_next_in,
-    crate::specs::Reading::wires_in,
-    crate::specs::Reading::wires_at,
-    crate::specs::Reading::declared_at,
-    crate::specs::Reading::read_list_at,
-    crate::specs::Reading::reads_in,
-    crate::specs::Reading::reads_at,
-    crate::specs::Reading::eval_list_at,
-    crate::specs::Reading::evals_in,
-    crate::specs::Reading::evals_at
-))]
+#[tactic(auto, unfolding(crate::specs::Numbers::after, crate::specs::Numbers::numbers_from, crate::specs::Reading::ctx_in, crate::specs::Reading::clk_in, crate::specs::Reading::id_next_in, crate::specs::Reading::wires_in, crate::specs::Reading::wires_at, crate::specs::Reading::declared_at, crate::specs::Reading::read_list_at, crate::specs::Reading::reads_in, crate::specs::Reading::reads_at, crate::specs::Reading::eval_list_at, crate::specs::Reading::evals_in, crate::specs::Reading::evals_at))]
 pub fn load(
     source: &[u8],
     values: &mut [u64],

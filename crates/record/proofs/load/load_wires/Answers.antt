@@ -2,7 +2,6 @@
 -- Assumes nothing.
 use Rattle.std.proofs.Common.{◌+◌, ◌*◌, ◌∙◌, arith}
 use Rattle.std.proofs.lemmas.List.Edits.{length-between}
-use Rattle.record.specs.Numbers.{number_at}
 use Rattle.record.proofs.WireLoads.{count_is_u32, loaded_none, loaded_next}
 use Rattle.record.proofs.load.load_wires.Goals as goal
 

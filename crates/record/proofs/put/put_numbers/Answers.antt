@@ -1,6 +1,5 @@
 -- `record::put::put_numbers` meets its contract.
 -- Assumes nothing.
-use Rattle.std.proofs.Common.{arith}
 use Rattle.record.proofs.Putting.{wrote_none, number_room, number_wrote}
 use Rattle.record.proofs.put.put_numbers.Goals as goal
 
