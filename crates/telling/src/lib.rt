@@ -3,6 +3,6 @@
 
 pub mod answers;
 pub mod buffers;
-pub mod lists;
 pub mod listing;
+pub mod lists;
 pub mod small;

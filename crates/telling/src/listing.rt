@@ -32,3 +32,15 @@ pub const WHOLE: Lengths = Lengths {
     counts: 7,
     nodes: 52,
 };
+
+pub const ONE_SHORT: &[(&str, Lengths)] = &[
+    (
+        "values one short",
+        Lengths {
+            values: 11,
+            ..EXACT
+        },
+    ),
+    ("counts one short", Lengths { counts: 5, ..EXACT }),
+    ("nodes one short", Lengths { nodes: 50, ..EXACT }),
+];

@@ -27,9 +27,7 @@ pub const FINISHED: CircuitEvaluation = CircuitEvaluation {
 pub const BUFFERS: Buffers<7, 4, 19> = Buffers {
     values: [3, 0, 3, 0, 0, 0, 9],
     counts: [5, 6, 7, 9],
-    nodes: [
-        0, 2, 3, 0, 1, 3, 0, 4, P - 1, 0, 0, 0, 2, 3, 0, 1, 3, 0, 9,
-    ],
+    nodes: [0, 2, 3, 0, 1, 3, 0, 4, P - 1, 0, 0, 0, 2, 3, 0, 1, 3, 0, 9],
 };
 
 pub const EXACT: Lengths = Lengths {
@@ -43,3 +41,9 @@ pub const WHOLE: Lengths = Lengths {
     counts: 4,
     nodes: 19,
 };
+
+pub const ONE_SHORT: &[(&str, Lengths)] = &[
+    ("values one short", Lengths { values: 5, ..EXACT }),
+    ("counts one short", Lengths { counts: 2, ..EXACT }),
+    ("nodes one short", Lengths { nodes: 17, ..EXACT }),
+];
