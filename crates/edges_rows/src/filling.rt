@@ -8,7 +8,7 @@ use std::io;
 use telling::answers::{Answer, Refused};
 use telling::buffers::{Buffers, CANARY, Lengths};
 use telling::lists::{Cells, Numbers};
-use telling::small::{BUFFERS, EXACT, FINISHED, HEADER, ONE_SHORT, WHOLE};
+use telling::small::{BAD_COUNTS, BUFFERS, EXACT, FINISHED, HEADER, ONE_SHORT, STATES, WHOLE};
 use trace::{CircuitEvaluation, RecordHeader};
 
 // The row that is filled first, and how many cells are lent.
@@ -20,63 +20,6 @@ const PLACES: &[(&str, usize, usize)] = &[
     ("from row 2 on", 2, 49),
     ("from row 2^60 on, 16 times which is 2^64", 1 << 60, 49),
     ("from the largest row on", usize::MAX, 49),
-];
-
-const HEADERS: &[(&str, RecordHeader)] = &[
-    (
-        "no EVAL node",
-        RecordHeader {
-            num_eval: 0,
-            ..HEADER
-        },
-    ),
-    (
-        "21 ahead of 19",
-        RecordHeader {
-            num_read: u32::MAX,
-            num_eval: 0,
-            ..HEADER
-        },
-    ),
-    (
-        "1073741824 wires",
-        RecordHeader {
-            num_read: 536870911,
-            num_eval: 2,
-            ..HEADER
-        },
-    ),
-    (
-        "1073741823 wires pass 19, short buffers",
-        RecordHeader {
-            num_read: 536870911,
-            ..HEADER
-        },
-    ),
-    (
-        "no READ node passes, the nodes' first cells are the EVAL node",
-        RecordHeader {
-            num_read: 0,
-            id_next: 33,
-            ..HEADER
-        },
-    ),
-];
-
-// Of a state: the EVAL steps done, the next id, the last wire's first cell, the node cells that are lent
-// and the room.
-const STATES: &[(&str, u32, u64, u64, usize, usize)] = &[
-    ("all steps are done", 1, P - 1, 0, 18, 32),
-    ("12 is not asked", 1, P - 1, 5, 18, 32),
-    ("the EVAL step lacks", 0, 0, 0, 18, 32),
-    ("id_next 0 after all steps", 1, 0, 0, 18, 32),
-    ("13 ahead of 11", 0, 1, 0, 18, 32),
-    ("11 ahead of 6", 0, 0, 0, 17, 32),
-    ("nodes one short", 1, P - 1, 0, 17, 32),
-    ("6 ahead of 17", 1, P - 1, P, 17, 32),
-    ("a used value cell is p", 1, P - 1, P, 18, 32),
-    ("17 ahead of 14", 1, P - 1, P, 18, 31),
-    ("room one cell short", 1, P - 1, 0, 18, 31),
 ];
 
 fn filled(answer: FillAnswer) -> Answer<Numbers<0>> {
@@ -155,9 +98,23 @@ pub fn two_of_each(rt: &impl Print) -> io::Result<()> {
 }
 
 pub fn records_refused(rt: &impl Print) -> io::Result<()> {
-    for &(case, header) in HEADERS {
+    for &(case, header) in BAD_COUNTS {
         fill_over(rt, case, header, EXACT, BUFFERS, 0, 32)?;
     }
+    let no_read = RecordHeader {
+        num_read: 0,
+        id_next: 33,
+        ..HEADER
+    };
+    fill_over(
+        rt,
+        "no READ node passes, the nodes' first cells are the EVAL node",
+        no_read,
+        EXACT,
+        BUFFERS,
+        0,
+        32,
+    )?;
     for &(case, lent) in ONE_SHORT {
         fill_over(rt, case, HEADER, lent, BUFFERS, 0, 32)?;
     }
@@ -175,25 +132,38 @@ pub fn records_refused(rt: &impl Print) -> io::Result<()> {
     with_node(rt, "p past the used node cells passes", 18, P)
 }
 
+fn from_state(
+    rt: &impl Print,
+    case: &str,
+    evals_done: u32,
+    id_next: u64,
+    last: u64,
+    node_cells: usize,
+    room: usize,
+) -> io::Result<()> {
+    let state = CircuitEvaluation {
+        evals_done,
+        id_next,
+        ..FINISHED
+    };
+    let mut values = BUFFERS.values;
+    values[4] = last;
+    let mut rows = [CANARY; 33];
+    let answer = filled(fill_state(
+        state,
+        &values[..6],
+        &BUFFERS.counts[..3],
+        &BUFFERS.nodes[..node_cells.min(19)],
+        0,
+        &mut rows[..room.min(33)],
+    ));
+    println!(rt; "fill_state: {case} = {answer} rows{}", Cells(&rows))
+}
+
 pub fn from_states(rt: &impl Print) -> io::Result<()> {
-    for &(case, evals_done, id_next, last, node_cells, room) in STATES {
-        let state = CircuitEvaluation {
-            evals_done,
-            id_next,
-            ..FINISHED
-        };
-        let mut values = BUFFERS.values;
-        values[4] = last;
-        let mut rows = [CANARY; 33];
-        let answer = filled(fill_state(
-            state,
-            &values[..6],
-            &BUFFERS.counts[..3],
-            &BUFFERS.nodes[..node_cells.min(19)],
-            0,
-            &mut rows[..room.min(33)],
-        ));
-        println!(rt; "fill_state: {case} = {answer} rows{}", Cells(&rows))?;
+    for &(case, evals_done, id_next, last, node_cells) in STATES {
+        from_state(rt, case, evals_done, id_next, last, node_cells, 32)?;
     }
-    Ok(())
+    from_state(rt, "17 ahead of 14", 1, P - 1, P, 18, 31)?;
+    from_state(rt, "room one cell short", 1, P - 1, 0, 18, 31)
 }

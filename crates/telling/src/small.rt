@@ -47,3 +47,49 @@ pub const ONE_SHORT: &[(&str, Lengths)] = &[
     ("counts one short", Lengths { counts: 2, ..EXACT }),
     ("nodes one short", Lengths { nodes: 17, ..EXACT }),
 ];
+
+pub const BAD_COUNTS: &[(&str, RecordHeader)] = &[
+    (
+        "no EVAL node",
+        RecordHeader {
+            num_eval: 0,
+            ..HEADER
+        },
+    ),
+    (
+        "21 ahead of 19",
+        RecordHeader {
+            num_read: u32::MAX,
+            num_eval: 0,
+            ..HEADER
+        },
+    ),
+    (
+        "1073741824 wires",
+        RecordHeader {
+            num_read: 536870911,
+            num_eval: 2,
+            ..HEADER
+        },
+    ),
+    (
+        "1073741823 wires pass 19, short buffers",
+        RecordHeader {
+            num_read: 536870911,
+            ..HEADER
+        },
+    ),
+];
+
+/// The EVAL steps done and the next id, the last wire's first cell, and how many node cells are lent.
+pub const STATES: &[(&str, u32, u64, u64, usize)] = &[
+    ("all steps are done", 1, P - 1, 0, 18),
+    ("12 is not asked", 1, P - 1, 5, 18),
+    ("the EVAL step lacks", 0, 0, 0, 18),
+    ("id_next 0 after all steps", 1, 0, 0, 18),
+    ("13 ahead of 11", 0, 1, 0, 18),
+    ("11 ahead of 6", 0, 0, 0, 17),
+    ("nodes one short", 1, P - 1, 0, 17),
+    ("6 ahead of 17", 1, P - 1, P, 17),
+    ("a used value cell is p", 1, P - 1, P, 18),
+];
