@@ -1,7 +1,5 @@
 // Record writer: "21, 19, 6, 17 (a used value or node cell, or id_next, p or more), then" "writer 24".
 // Every byte of the room is told, and of what lies behind the lent part.
-ghost use Rattle.std.specs.Prelude.{◌<◌};
-
 use field::P;
 use numbers::WriteAnswer;
 use record::{write_into, write_state_into};
@@ -39,20 +37,17 @@ fn write_over(
     println!(rt; "write_into: {case} = {answer}{}", Bytes(&out))
 }
 
-fn with_value(rt: &impl Print, case: &str, place: usize, cell: u64, room: usize) -> io::Result<()>
-    requires { place < 7 }
+fn changed<F: FnOnce(&mut Buffers<7, 4, 19>)>(
+    rt: &impl Print,
+    case: &str,
+    room: usize,
+    change: F,
+) -> io::Result<()>
+    requires { F.IsAlwaysCallable change }
 {
     let mut buffers = BUFFERS;
-    buffers.values[place] = cell;
+    change(&mut buffers);
     write_over(rt, case, HEADER, WHOLE, buffers, room)
-}
-
-fn with_node(rt: &impl Print, case: &str, place: usize, cell: u64) -> io::Result<()>
-    requires { place < 19 }
-{
-    let mut buffers = BUFFERS;
-    buffers.nodes[place] = cell;
-    write_over(rt, case, HEADER, WHOLE, buffers, 52)
 }
 
 pub fn records(rt: &impl Print) -> io::Result<()> {
@@ -85,11 +80,31 @@ pub fn records(rt: &impl Print) -> io::Result<()> {
     let short = Lengths { nodes: 17, ..EXACT };
     write_over(rt, "6 ahead of 17", no_element, short, BUFFERS, 52)?;
     write_over(rt, "id_next p", no_element, EXACT, BUFFERS, 52)?;
-    with_value(rt, "a used value cell is p", 5, P, 52)?;
-    with_value(rt, "p past the used value cells passes", 6, P, 52)?;
-    with_value(rt, "17 ahead of 24", 0, P, 51)?;
-    with_node(rt, "a used node cell is p", 17, P)?;
-    with_node(rt, "p past the used node cells passes", 18, P)
+    changed(
+        rt,
+        "a used value cell is p",
+        52,
+        |buffers| buffers.values[5] = P,
+    )?;
+    changed(
+        rt,
+        "p past the used value cells passes",
+        52,
+        |buffers| buffers.values[6] = P,
+    )?;
+    changed(rt, "17 ahead of 24", 51, |buffers| buffers.values[0] = P)?;
+    changed(
+        rt,
+        "a used node cell is p",
+        52,
+        |buffers| buffers.nodes[17] = P,
+    )?;
+    changed(
+        rt,
+        "p past the used node cells passes",
+        52,
+        |buffers| buffers.nodes[18] = P,
+    )
 }
 
 fn from_state(

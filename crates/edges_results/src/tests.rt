@@ -1,7 +1,5 @@
 // What fill and writer ask of a record: "21, 19, 6, 17 (a used value or node cell, or id_next, p or
 // more)".
-ghost use Rattle.std.specs.Prelude.{◌<◌};
-
 use field::P;
 use std::io;
 use telling::answers::{Answer, Refused};
@@ -66,19 +64,15 @@ fn test(
     println!(rt; "test: {case} = {}", Answer(answer))
 }
 
-fn with_value(rt: &impl Print, case: &str, at: usize, cell: u64) -> io::Result<()>
-    requires { at < 14 }
+fn changed<F: FnOnce(&mut Buffers<14, 7, 52>)>(
+    rt: &impl Print,
+    case: &str,
+    change: F,
+) -> io::Result<()>
+    requires { F.IsAlwaysCallable change }
 {
     let mut buffers = BUFFERS;
-    buffers.values[at] = cell;
-    test(rt, case, HEADER, WHOLE, &buffers)
-}
-
-fn with_node(rt: &impl Print, case: &str, at: usize, cell: u64) -> io::Result<()>
-    requires { at < 52 }
-{
-    let mut buffers = BUFFERS;
-    buffers.nodes[at] = cell;
+    change(&mut buffers);
     test(rt, case, HEADER, WHOLE, &buffers)
 }
 
@@ -101,11 +95,39 @@ pub fn cells_tested(rt: &impl Print) -> io::Result<()> {
     for &(case, id_next, lent) in IDS {
         test(rt, case, RecordHeader { id_next, ..HEADER }, lent, &BUFFERS)?;
     }
-    with_value(rt, "the first value cell is p", 0, P)?;
-    with_value(rt, "the last used value cell is p", 11, P)?;
-    with_value(rt, "p past the used value cells passes", 12, P)?;
-    with_value(rt, "a value cell p - 1 passes", 11, P - 1)?;
-    with_node(rt, "the first node cell is p", 0, P)?;
-    with_node(rt, "the last used node cell is p", 50, P)?;
-    with_node(rt, "p past the used node cells passes", 51, P)
+    changed(
+        rt,
+        "the first value cell is p",
+        |buffers| buffers.values[0] = P,
+    )?;
+    changed(
+        rt,
+        "the last used value cell is p",
+        |buffers| buffers.values[11] = P,
+    )?;
+    changed(
+        rt,
+        "p past the used value cells passes",
+        |buffers| buffers.values[12] = P,
+    )?;
+    changed(
+        rt,
+        "a value cell p - 1 passes",
+        |buffers| buffers.values[11] = P - 1,
+    )?;
+    changed(
+        rt,
+        "the first node cell is p",
+        |buffers| buffers.nodes[0] = P,
+    )?;
+    changed(
+        rt,
+        "the last used node cell is p",
+        |buffers| buffers.nodes[50] = P,
+    )?;
+    changed(
+        rt,
+        "p past the used node cells passes",
+        |buffers| buffers.nodes[51] = P,
+    )
 }

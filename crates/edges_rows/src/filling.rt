@@ -1,7 +1,5 @@
 // Fill: "21, 19, 6, 17 (a used value or node cell, or id_next, p or more), then fill 14". Every cell
 // of the row buffer is told, and of what lies behind the lent part.
-ghost use Rattle.std.specs.Prelude.{◌<◌};
-
 use field::P;
 use rows::{FillAnswer, fill, fill_state};
 use std::io;
@@ -51,33 +49,35 @@ fn fill_over(
     println!(rt; "fill: {case} = {answer} rows{}", Cells(&rows))
 }
 
-fn with_value(rt: &impl Print, case: &str, place: usize, cell: u64, room: usize) -> io::Result<()>
-    requires { place < 7 }
+fn changed<F: FnOnce(&mut Buffers<7, 4, 19>)>(
+    rt: &impl Print,
+    case: &str,
+    room: usize,
+    change: F,
+) -> io::Result<()>
+    requires { F.IsAlwaysCallable change }
 {
     let mut buffers = BUFFERS;
-    buffers.values[place] = cell;
+    change(&mut buffers);
     fill_over(rt, case, HEADER, WHOLE, buffers, 0, room)
-}
-
-fn with_node(rt: &impl Print, case: &str, place: usize, cell: u64) -> io::Result<()>
-    requires { place < 19 }
-{
-    let mut buffers = BUFFERS;
-    buffers.nodes[place] = cell;
-    fill_over(rt, case, HEADER, WHOLE, buffers, 0, 32)
 }
 
 pub fn rows_filled(rt: &impl Print) -> io::Result<()> {
     for &(case, offset, room) in PLACES {
         fill_over(rt, case, HEADER, EXACT, BUFFERS, offset, room)?;
     }
-    with_node(
+    changed(
         rt,
         "counts go by position, whatever ids the nodes hold",
-        1,
-        40,
+        32,
+        |buffers| buffers.nodes[1] = 40,
     )?;
-    with_node(rt, "any eval_op passes", 8, 77)
+    changed(
+        rt,
+        "any eval_op passes",
+        32,
+        |buffers| buffers.nodes[8] = 77,
+    )
 }
 
 // Their cells are all 0.
@@ -125,11 +125,31 @@ pub fn records_refused(rt: &impl Print) -> io::Result<()> {
     let short = Lengths { nodes: 17, ..EXACT };
     fill_over(rt, "6 ahead of 17", no_element, short, BUFFERS, 0, 32)?;
     fill_over(rt, "id_next p", no_element, EXACT, BUFFERS, 0, 32)?;
-    with_value(rt, "a used value cell is p", 5, P, 32)?;
-    with_value(rt, "p past the used value cells passes", 6, P, 32)?;
-    with_value(rt, "17 ahead of 14", 0, P, 31)?;
-    with_node(rt, "a used node cell is p", 17, P)?;
-    with_node(rt, "p past the used node cells passes", 18, P)
+    changed(
+        rt,
+        "a used value cell is p",
+        32,
+        |buffers| buffers.values[5] = P,
+    )?;
+    changed(
+        rt,
+        "p past the used value cells passes",
+        32,
+        |buffers| buffers.values[6] = P,
+    )?;
+    changed(rt, "17 ahead of 14", 31, |buffers| buffers.values[0] = P)?;
+    changed(
+        rt,
+        "a used node cell is p",
+        32,
+        |buffers| buffers.nodes[17] = P,
+    )?;
+    changed(
+        rt,
+        "p past the used node cells passes",
+        32,
+        |buffers| buffers.nodes[18] = P,
+    )
 }
 
 fn from_state(

@@ -25,7 +25,7 @@ pub fn with_second(len: u32, second: Entry) -> Ace {
     list
 }
 
-/// The length, and each entry in use: its clock and its counts.
+// The length, and each entry in use: its clock and its counts.
 #[derive(Clone, Copy)]
 pub struct Listed(pub Ace);
 

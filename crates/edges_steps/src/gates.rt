@@ -19,13 +19,14 @@ const ADD_5_5: u64 = 2305843014582403077;
 // The first word with opcode 3.
 const OPCODE_3: u64 = 3458764513820540928;
 
-// What the listing's READ step leaves: 3 and 4, with ids 5 and 4, at positions 0 and 1.
+// After the listing's READ step.
 const READ: CircuitEvaluation = CircuitEvaluation {
     reads_done: 1,
     id_next: 3,
     ..OPENED
 };
 
+// The wires that it leaves: 3 and 4, with ids 5 and 4, at positions 0 and 1.
 const STORED: [u64; 5] = [3, 0, 4, 0, CANARY];
 
 const OPERATIONS: &[(&str, u64, u64)] = &[

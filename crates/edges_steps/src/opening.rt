@@ -1,6 +1,6 @@
 // Opening: "1 (2·num_read + num_eval over 32768), 2 (num_read zero), 3 (num_eval zero), 6, changing
 // nothing".
-use crate::steps::Left;
+use crate::steps::After;
 use std::io;
 use telling::answers::{Answer, Refused};
 use telling::buffers::Lengths;
@@ -62,7 +62,7 @@ fn open(
         &UNTOUCHED.nodes[..lent.nodes.min(52)],
     );
     let answer = match opened {
-        OpenAnswer::Opened(state) => Ok(Left(state)),
+        OpenAnswer::Opened(state) => Ok(After(state)),
         OpenAnswer::Refused(number, place) => Err(Refused { number, place }),
     };
     println!(rt; "new: {case} = {}", Answer(answer))

@@ -5,11 +5,11 @@ use telling::buffers::{Buffers, Lengths};
 use telling::lists::Numbers;
 use trace::{CircuitEvaluation, StepAnswer};
 
-/// The state that a call gives back.
+// The state after a call.
 #[derive(Clone, Copy)]
-pub struct Left(pub CircuitEvaluation);
+pub struct After(pub CircuitEvaluation);
 
-impl fmt::Display for Left {
+impl fmt::Display for After {
     fn fmt<W: fmt::Write>(&self, f: &mut fmt::Formatter<W>) -> fmt::Result {
         write!(f, " state{}", State(self.0))
     }
@@ -37,6 +37,6 @@ pub fn take<F: FnOnce(&mut [u64], &mut [u32], &mut [u64]) -> StepAnswer>(
     println!(rt;
         "{call}: {case} = {}{}{buffers}",
         Answer(answer),
-        Left(state)
+        After(state)
     )
 }

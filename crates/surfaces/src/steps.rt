@@ -5,7 +5,7 @@ use telling::buffers::Buffers;
 use telling::lists::Numbers;
 use trace::{CircuitEvaluation, OpenAnswer, OutputAnswer, StepAnswer, Tested};
 
-/// What the listing's six wires and five nodes need, and cells past them.
+// What the listing's six wires and five nodes need, and cells past them.
 pub type Lent = Buffers<14, 8, 53>;
 
 #[derive(Clone, Copy)]
@@ -17,7 +17,7 @@ pub struct Step {
 pub trait Surface {
     const NAME: &'static str;
 
-    /// In the listing's context and at its clock.
+    // In the listing's context and at its clock.
     fn new(state: CircuitEvaluation, num_read: u32, num_eval: u32, lent: &Lent) -> Step;
 
     fn do_read(state: CircuitEvaluation, ptr: u64, word: [[u64; 2]; 2], lent: &mut Lent) -> Step;

@@ -2,15 +2,15 @@
 use std::fmt;
 use trace::{CircuitEvaluation, RecordHeader};
 
-/// A refusal's number and its place.
+// A refusal's number and its place.
 #[derive(Clone, Copy)]
 pub struct Refused {
     pub number: u32,
     pub place: u64,
 }
 
-/// `accept` and the value, which tells the space ahead of it; or `refuse`, the refusal's number and its
-/// place.
+// `accept` and the value, which tells the space ahead of it; or `refuse`, the refusal's number and its
+// place.
 #[derive(Drop)]
 pub struct Answer<T>(pub Result<T, Refused>);
 
@@ -23,7 +23,7 @@ impl<T: fmt::Display> fmt::Display for Answer<T> {
     }
 }
 
-/// Its seven numbers, each after a space.
+// Its seven numbers, each after a space.
 #[derive(Clone, Copy)]
 pub struct State(pub CircuitEvaluation);
 
@@ -36,7 +36,7 @@ impl fmt::Display for State {
     }
 }
 
-/// Its five numbers, each after a space.
+// Its five numbers, each after a space.
 #[derive(Clone, Copy)]
 pub struct Header(pub RecordHeader);
 

@@ -2,12 +2,12 @@
 use crate::lists::Cells;
 use std::fmt;
 
-/// What cells hold before a call, where nothing else is said.
+// What cells hold before a call, where nothing else is said.
 pub const CANARY: u64 = 9;
 
 pub const COUNT_CANARY: u32 = 9;
 
-/// How many cells of each buffer a call is lent, from the first on.
+// How many cells of each buffer a call is lent, from the first on.
 #[derive(Clone, Copy)]
 pub struct Lengths {
     pub values: usize,

@@ -2,7 +2,7 @@
 use crate::buffers::{Buffers, CANARY, COUNT_CANARY, Lengths};
 use trace::CircuitEvaluation;
 
-/// Before the first step.
+// Before the first step.
 pub const OPENED: CircuitEvaluation = CircuitEvaluation {
     ctx: 0,
     clk: 7,
@@ -13,14 +13,14 @@ pub const OPENED: CircuitEvaluation = CircuitEvaluation {
     id_next: 5,
 };
 
-/// What the circuit needs.
+// What the circuit needs.
 pub const EXACT: Lengths = Lengths {
     values: 12,
     counts: 6,
     nodes: 51,
 };
 
-/// One or two cells more than it needs.
+// Cells of which no call has written one, one or two more than the circuit needs.
 pub const UNTOUCHED: Buffers<14, 7, 52> = Buffers {
     values: [CANARY; 14],
     counts: [COUNT_CANARY; 7],

@@ -1,7 +1,7 @@
 // Lists, of which each part stands after a space.
 use std::fmt;
 
-/// Numbers of an answer, each by itself.
+// Numbers of an answer, each by itself.
 #[derive(Clone, Copy)]
 pub struct Numbers<const N: usize>(pub [u64; N]);
 
@@ -14,7 +14,7 @@ impl<const N: usize> fmt::Display for Numbers<N> {
     }
 }
 
-/// Lent cells or counts: one that stands n times in a row is told once, with *n.
+// Lent cells or counts: one that stands n times in a row is told once, with *n.
 #[derive(Clone, Copy)]
 pub struct Cells<'a, T>(pub &'a [T]);
 
@@ -31,7 +31,7 @@ impl<T: fmt::Display + PartialEq> fmt::Display for Cells<'_, T> {
     }
 }
 
-/// Lent bytes, in two hexadecimal digits each.
+// Lent bytes, in two hexadecimal digits each.
 #[derive(Clone, Copy)]
 pub struct Bytes<'a>(pub &'a [u8]);
 

@@ -12,7 +12,7 @@ pub const HEADER: RecordHeader = RecordHeader {
     id_next: P - 1,
 };
 
-/// After its last step.
+// After its last step.
 pub const FINISHED: CircuitEvaluation = CircuitEvaluation {
     ctx: 0,
     clk: 7,
@@ -23,7 +23,7 @@ pub const FINISHED: CircuitEvaluation = CircuitEvaluation {
     id_next: P - 1,
 };
 
-/// What the record needs, and one cell more.
+// What the record needs, and one cell more.
 pub const BUFFERS: Buffers<7, 4, 19> = Buffers {
     values: [3, 0, 3, 0, 0, 0, 9],
     counts: [5, 6, 7, 9],
@@ -81,7 +81,7 @@ pub const BAD_COUNTS: &[(&str, RecordHeader)] = &[
     ),
 ];
 
-/// The EVAL steps done and the next id, the last wire's first cell, and how many node cells are lent.
+// The EVAL steps done and the next id, the last wire's first cell, and how many node cells are lent.
 pub const STATES: &[(&str, u32, u64, u64, usize)] = &[
     ("all steps are done", 1, P - 1, 0, 18),
     ("12 is not asked", 1, P - 1, 5, 18),
