@@ -17,7 +17,9 @@ use Rattle.field.proofs.Cases.{below?}
 use Rattle.instruction.specs.Decode.{left_id, right_id, opcode, decode_answer}
 use Rattle.instruction.proofs.Laws.{instruction, not_instruction}
 use Rattle.trace.specs.declared.CircuitEvaluation.{CircuitEvaluation}
-use Rattle.trace.specs.declared.wire_bus.Operand.TheVariants as operands
+use Rattle.std.proofs.Common.{Ok, Err}
+use Rattle.refusal.specs.declared.Refusal.TheVariants.{LeftNotMade, RightNotMade}
+use Rattle.trace.specs.Inside.{bus_of}
 use Rattle.trace.specs.Counts.{wires, node_cells}
 use Rattle.trace.specs.State.{wires_of, next_id}
 use Rattle.trace.specs.Outcome.{Lent, lent, outcome, fits}
@@ -182,7 +184,7 @@ module _ (s : CircuitEvaluation) (memory : List ℕ) (ptr : ℕ) (b : Lent) (ok 
         number = 9;
         left = here;
         stopped = gate_left c k word_below o l;
-        ends = sym (left_refused state at left right (opcode (word c k)) here (operands.Refused 9 k) here.counts (not_there 9 k (num_wires c) n left here.values here.counts l) refl 9 k refl ∙ operands-first);
+        ends = sym (left_refused state at left right (opcode (word c k)) here (bus_of state) refl (Err (LeftNotMade k)) here.counts (not_there 9 k (num_wires c) n left here.values here.counts l) refl (LeftNotMade k) refl ∙ operands-first);
         past = here-past;
       }
 
@@ -238,8 +240,8 @@ module _ (s : CircuitEvaluation) (memory : List ℕ) (ptr : ℕ) (b : Lent) (ok 
           number = 10;
           left = lent here.values once here.nodes;
           stopped = gate_right c k word_below o l r;
-          ends = sym (right_refused state at left right (opcode (word c k)) here (operands.Value (value c left).c0 (value c left).c1) once left_there refl _ _ refl
-              (operands.Refused 10 k) once (not_there 10 k (num_wires c) n right here.values once r) refl 10 k refl
+          ends = sym (right_refused state at left right (opcode (word c k)) here (bus_of state) refl (Ok (cells (value c left))) once left_there refl _ refl
+              (Err (RightNotMade k)) once (not_there 10 k (num_wires c) n right here.values once r) refl (RightNotMade k) refl
               ∙ operands-first);
           past = record { past_values = here-past.past_values; past_counts = once-past; past_nodes = here-past.past_nodes };
         }
@@ -322,9 +324,9 @@ module _ (s : CircuitEvaluation) (memory : List ℕ) (ptr : ℕ) (b : Lent) (ok 
                 let id = sym (next_later (wires_of s) n 1 ok.few (omega arith) (omega arith) ∙ ap (λ (x : ℕ). next_id (wires_of s) x) f) in
                 record {
                   passed = gate_accepted c k word_below o l r;
-                  leads = sym (both_taken state at left right (opcode (word c k)) here
-                      (operands.Value (value c left).c0 (value c left).c1) once left_there refl _ _ refl
-                      (operands.Value (value c right).c0 (value c right).c1) twice right_there refl _ _ refl
+                  leads = sym (both_taken state at left right (opcode (word c k)) here (bus_of state) refl
+                      (Ok (cells (value c left))) once left_there refl _ refl
+                      (Ok (cells (value c right))) twice right_there refl _ refl
                       _ _ id made-next
                       ∙ operands-first);
                 }

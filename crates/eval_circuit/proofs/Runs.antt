@@ -13,9 +13,11 @@ use Rattle.field.specs.Field.{p}
 use Rattle.field.specs.Pair.{Pair, pair}
 use Rattle.refusal.proofs.Tellings.{clash}
 use Rattle.trace.specs.declared.CircuitEvaluation.{CircuitEvaluation}
-use Rattle.trace.specs.declared.StepAnswer.{StepAnswer}
-use Rattle.trace.specs.declared.StepAnswer.TheVariants.{Done, Refused}
-use Rattle.trace.specs.declared.OutputAnswer.{OutputAnswer}
+use Rattle.std.proofs.Common.{Result, Ok, Err}
+use Rattle.refusal.specs.Refusal.{number_of, place_of}
+use Rattle.refusal.specs.declared.Refusal.{Refusal}
+use Rattle.trace.specs.declared.RecordHeader.{RecordHeader}
+use Rattle.trace.specs.declared.RefusedStep.{RefusedStep}
 use Rattle.trace.specs.Counts.{wires, node_cells}
 use Rattle.trace.specs.State.{wires_of, made_of, next_id}
 use Rattle.trace.specs.Outcome.{Lent, value_at}
@@ -61,11 +63,11 @@ module _ (s : CircuitEvaluation) (memory : List ℕ) (ptr : ℕ) (b : Lent) (ok 
   abbrev reads : ℕ
   reads = s.num_read
 
-  left_over : (r : StepAnswer) (d : Lent) → Left r (after s reads 0) c ptr d (stage c ptr reads 0 b) → Left r s c ptr d b
-  left_over (Done u) d l = (l.0, l.1 ∙ stage_over c ptr reads s.num_eval b)
-  left_over (Refused u n k) d l = past_over c _ d (stage c ptr reads 0 b) b l (stage_past c ptr reads 0 _ b (omega arith) (omega arith))
+  left_over : (r : Result CircuitEvaluation RefusedStep) (d : Lent) → Left r (after s reads 0) c ptr d (stage c ptr reads 0 b) → Left r s c ptr d b
+  left_over (Ok u) d l = (l.0, l.1 ∙ stage_over c ptr reads s.num_eval b)
+  left_over (Err e) d l = past_over c _ d (stage c ptr reads 0 b) b l (stage_past c ptr reads 0 _ b (omega arith) (omega arith))
 
-  pub both_runs : (r : StepAnswer) (t : CircuitEvaluation) (d e : Lent) → t ≡ after s reads 0 → e ≡ stage c ptr reads 0 b
+  pub both_runs : (r : Result CircuitEvaluation RefusedStep) (t : CircuitEvaluation) (d e : Lent) → t ≡ after s reads 0 → e ≡ stage c ptr reads 0 b
       → Left r t (circuit_of t memory ptr) ptr d e → Left r s c ptr d b
   both_runs r t d e et ee h =
       let l : Left r (after s reads 0) c ptr d (stage c ptr reads 0 b) = rw (et, ee) at h in
@@ -98,19 +100,21 @@ module _ (s : CircuitEvaluation) (memory : List ℕ) (ptr : ℕ) (b : Lent) (ok 
       (ap (λ (v : Pair). cond (is_zero v) (accepted (header_numbers (header_of (after s reads s.num_eval)))) (refused 12 0)) last-value
       ∙ ap₂ (λ (x y : ℕ). cond (is_zero (value c 0)) (accepted (s.ctx ∷ s.clk ∷ x ∷ s.num_eval ∷ y ∷ [])) (refused 12 0)) (sym h) i)
 
-  module _ (q : StepAnswer) (d : Lent) (g : step_told q ≡ gates_answer s.num_eval 0 c (accepted [])) (l : Left q s c ptr d b) where
+  module _ (q : Result CircuitEvaluation RefusedStep) (d : Lent) (g : step_told q ≡ gates_answer s.num_eval 0 c (accepted [])) (l : Left q s c ptr d b) where
     -- all steps accepted: the answer is the result's
-    pub run_done : (t : CircuitEvaluation) (r : OutputAnswer) → q ≡ Done t → output_told r ≡ output_answer t d → output_told r ≡ circuit_answer s.ctx s.clk c
+    pub run_done : (t : CircuitEvaluation) (r : Result RecordHeader Refusal) → q ≡ Ok t → output_told r ≡ output_answer t d → output_told r ≡ circuit_answer s.ctx s.clk c
     run_done t r e o =
         let g' : accepted [] ≡ gates_answer s.num_eval 0 c (accepted []) = rw e at g in
-        let l' : Left (Done t) s c ptr d b = rw e at l in
+        let l' : Left (Ok t) s c ptr d b = rw e at l in
         let a = gates_accepted c (accepted []) s.num_eval 0 [] (sym g') in
         let i : output_told r ≡ output_answer (after s reads s.num_eval) (stage c ptr reads s.num_eval b) = o ∙ ap₂ output_answer l'.0 l'.1 in
         i ∙ output-is ∙ sym (gates_pass c _ s.num_eval 0 a.0)
 
     -- a gate refused: so is the evaluation
-    pub run_refused : (t : CircuitEvaluation) (n k : ℕ) → q ≡ Refused t n k → refused n k ≡ circuit_answer s.ctx s.clk c
-    run_refused t n k e =
+    pub run_refused : (t : RefusedStep) → q ≡ Err t → refused (number_of t.refusal) (place_of t.refusal) ≡ circuit_answer s.ctx s.clk c
+    run_refused t e =
+        let n = number_of t.refusal in
+        let k = place_of t.refusal in
         let g' : refused n k ≡ gates_answer s.num_eval 0 c (accepted []) = rw e at g in
         ⊎_elim
         (λ (f : First c 0 s.num_eval n k). sym (gates_stop c _ s.num_eval 0 n k f))

@@ -10,8 +10,9 @@ use Rattle.refusal.specs.Told.{accepted, refused}
 use Rattle.field.proofs.Cases.{below?}
 use Rattle.refusal.proofs.Tellings.{clash}
 use Rattle.trace.specs.declared.CircuitEvaluation.{CircuitEvaluation}
-use Rattle.trace.specs.declared.StepAnswer.{StepAnswer}
-use Rattle.trace.specs.declared.StepAnswer.TheVariants.{Done, Refused}
+use Rattle.std.proofs.Common.{Result, Ok, Err}
+use Rattle.refusal.specs.Refusal.{number_of, place_of}
+use Rattle.trace.specs.declared.RefusedStep.{RefusedStep}
 use Rattle.trace.specs.Counts.{node_cells}
 use Rattle.trace.specs.Outcome.{Lent, Outcome, outcome, step_outcome}
 use Rattle.trace.specs.Read.{read_step}
@@ -24,21 +25,21 @@ use Rattle.eval_circuit.proofs.Stages.{read_next}
 use Rattle.eval_circuit.proofs.GateSteps.{Next, Stop, eval_next}
 
 -- what an accepted step and a refused one say of the answer
-pub done_is : (r : StepAnswer) (t u : CircuitEvaluation) (d e : Lent) → step_outcome r d ≡ outcome (accepted []) u e → r ≡ Done t → (t ≡ u) × (d ≡ e)
+pub done_is : (r : Result CircuitEvaluation RefusedStep) (t u : CircuitEvaluation) (d e : Lent) → step_outcome r d ≡ outcome (accepted []) u e → r ≡ Ok t → (t ≡ u) × (d ≡ e)
 done_is r t u d e q h =
     let o : outcome (accepted []) t d ≡ outcome (accepted []) u e = rw h at q in
     (ap (λ (x : Outcome). x.state) o, ap (λ (x : Outcome). x.buffers) o)
 
-pub not_refused : {A : Type 0} (r : StepAnswer) (t u : CircuitEvaluation) (n k : ℕ) (d e : Lent) → step_outcome r d ≡ outcome (accepted []) u e → r ≡ Refused t n k → A
-not_refused r t u n k d e q h =
-    let o : refused n k ≡ accepted [] = ap (λ (x : Outcome). x.told) (rw h at q) in
+pub not_refused : {A : Type 0} (r : Result CircuitEvaluation RefusedStep) (t : RefusedStep) (u : CircuitEvaluation) (d e : Lent) → step_outcome r d ≡ outcome (accepted []) u e → r ≡ Err t → A
+not_refused r t u d e q h =
+    let o : refused (number_of t.refusal) (place_of t.refusal) ≡ accepted [] = ap (λ (x : Outcome). x.told) (rw h at q) in
     clash o
 
-pub stop_left : (r : StepAnswer) (s u : CircuitEvaluation) (c : Circuit) (ptr n k : ℕ) (a e b : Lent) → step_outcome r a ≡ outcome (refused n k) u e
+pub stop_left : (r : Result CircuitEvaluation RefusedStep) (s u : CircuitEvaluation) (c : Circuit) (ptr n k : ℕ) (a e b : Lent) → step_outcome r a ≡ outcome (refused n k) u e
     → Past c (node_cells s.num_read s.num_eval) e b → (step_told r ≡ refused n k) × Left r s c ptr a b
-stop_left (Done t) s u c ptr n k a e b q h =
+stop_left (Ok t) s u c ptr n k a e b q h =
     clash (sym (ap (λ (x : Outcome). x.told) q))
-stop_left (Refused t m j) s u c ptr n k a e b q h =
+stop_left (Err t) s u c ptr n k a e b q h =
     (ap (λ (x : Outcome). x.told) q, subst (λ (x : Lent). Past c (node_cells s.num_read s.num_eval) x b) (sym (ap (λ (x : Outcome). x.buffers) q)) h)
 
 -- a state with the steps done, and the next id, of another
@@ -52,22 +53,22 @@ module _ (s : CircuitEvaluation) (memory : List ℕ) (ptr : ℕ) (b : Lent) (ok 
   abbrev c : Circuit
   c = circuit_of s memory ptr
 
-  module _ (r : StepAnswer) (left : Lent) (i at : ℕ) (t : CircuitEvaluation) (w : List (List ℕ)) (here : Lent) (h : i < s.num_read)
+  module _ (r : Result CircuitEvaluation RefusedStep) (left : Lent) (i at : ℕ) (t : CircuitEvaluation) (w : List (List ℕ)) (here : Lent) (h : i < s.num_read)
       (q : step_outcome r left ≡ read_step t at w here) (et : t ≡ after s i 0) (ea : at ≡ ptr + 4 * i) (ew : w ≡ word_at memory at) (eh : here ≡ stage c ptr i 0 b) where
     read_is : step_outcome r left ≡ outcome (accepted []) (after s (i + 1) 0) (stage c ptr (i + 1) 0 b)
     read_is = q ∙ rw (et, ew, ea, eh) (read_next s memory ptr b ok i h)
 
-    pub read_on : (u : CircuitEvaluation) → r ≡ Done u → (reads_of t u ≡ after s (i + 1) 0) × (left ≡ stage c ptr (i + 1) 0 b)
+    pub read_on : (u : CircuitEvaluation) → r ≡ Ok u → (reads_of t u ≡ after s (i + 1) 0) × (left ≡ stage c ptr (i + 1) 0 b)
     read_on u d = let e = done_is r u _ left _ read_is d in (ap₂ reads_of et e.0, e.1)
 
-    pub read_off : (u : CircuitEvaluation) (n j : ℕ) (o : Outcome) → r ≡ Refused u n j → step_outcome r left ≡ o
-    read_off u n j o d = not_refused r u _ n j left _ read_is d
+    pub read_off : (e : RefusedStep) → r ≡ Err e → ⊥
+    read_off e d = not_refused r e _ left _ read_is d
 
   -- what the gates before gate k say
   abbrev pub Gone : ℕ → Type 0
   Gone k = (j : ℕ) → j < k → gate_answer c j ≡ accepted []
 
-  module _ (r : StepAnswer) (left : Lent) (k at : ℕ) (t : CircuitEvaluation) (v : ℕ) (here : Lent) (h : k < s.num_eval)
+  module _ (r : Result CircuitEvaluation RefusedStep) (left : Lent) (k at : ℕ) (t : CircuitEvaluation) (v : ℕ) (here : Lent) (h : k < s.num_eval)
       (q : step_outcome r left ≡ eval_step t at v here) (et : t ≡ after s s.num_read k) (ea : at ≡ ptr + 4 * s.num_read + k) (ev : v ≡ get_or memory at 0)
       (eh : here ≡ stage c ptr s.num_read k b) (gone : Gone k) where
     step_is : step_outcome r left ≡ eval_step (after s s.num_read k) at (word c k) (stage c ptr s.num_read k b)
@@ -79,22 +80,23 @@ module _ (s : CircuitEvaluation) (memory : List ℕ) (ptr : ℕ) (b : Lent) (ok 
     cases : Next c s ptr at k b ⊎ Stop c s ptr at k b
     cases = eval_next s memory ptr b ok k h at (omega arith) (λ j l. (gate_early c j [] (gone j l)).0)
 
-    pub eval_on : (u : CircuitEvaluation) → r ≡ Done u → (gate_answer c k ≡ accepted []) × (evals_of t u ≡ after s s.num_read (k + 1)) × (left ≡ stage c ptr s.num_read (k + 1) b)
+    pub eval_on : (u : CircuitEvaluation) → r ≡ Ok u → (gate_answer c k ≡ accepted []) × (evals_of t u ≡ after s s.num_read (k + 1)) × (left ≡ stage c ptr s.num_read (k + 1) b)
     eval_on u d =
         ⊎_elim
         (λ (n : Next c s ptr at k b). let i = done_is r u _ left _ (step_is ∙ n.leads) d in (n.passed, ap₂ evals_of et i.0, i.1))
         (λ (n : Stop c s ptr at k b). clash (sym (ap (λ (x : Outcome). x.told) (rw d at (step_is ∙ n.ends)))))
         cases
 
-    pub eval_off : (u : CircuitEvaluation) (n j : ℕ) → r ≡ Refused u n j → (step_told r ≡ gates_answer s.num_eval 0 c (accepted [])) × Left r s c ptr left b
-    eval_off u n j d =
-        ⊎_elim
-        (λ (m : Next c s ptr at k b). not_refused r u _ n j left _ (step_is ∙ m.leads) d)
+    pub eval_off : (e : RefusedStep) → r ≡ Err e → (o : Result CircuitEvaluation RefusedStep) → o ≡ Err e → (step_told o ≡ gates_answer s.num_eval 0 c (accepted [])) × Left o s c ptr left b
+    eval_off e d o z =
+        subst (λ (x : Result CircuitEvaluation RefusedStep). (step_told x ≡ gates_answer s.num_eval 0 c (accepted [])) × Left x s c ptr left b) (d ∙ sym z)
+        (⊎_elim
+        (λ (m : Next c s ptr at k b). not_refused r e _ left _ (step_is ∙ m.leads) d)
         (λ (m : Stop c s ptr at k b).
         let l = stop_left r s _ c ptr m.number k left m.left b (step_is ∙ m.ends) m.past in
-        let f : First c 0 s.num_eval m.number k = record { gate = k; from = omega arith; to = omega arith; before = λ i _ o. gone i o; here = m.stopped } in
+        let f : First c 0 s.num_eval m.number k = record { gate = k; from = omega arith; to = omega arith; before = λ i _ u. gone i u; here = m.stopped } in
         (l.0 ∙ sym (gates_stop c (accepted []) s.num_eval 0 m.number k f), l.1))
-        cases
+        cases)
 
   pub gone_more : (k : ℕ) → Gone k → gate_answer c k ≡ accepted [] → Gone (k + 1)
   gone_more k g e j h =

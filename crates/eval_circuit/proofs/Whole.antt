@@ -12,12 +12,11 @@ use borrow.Author.Tests.{lt-ltb, le-leb, lt-leb}
 use Rattle.refusal.specs.Told.{Told, accepted, refused}
 use Rattle.field.specs.Field.{p, first_over}
 use Rattle.field.proofs.Over.{over_below}
-use Rattle.refusal.proofs.Tellings.{clash, same_refusal}
+use Rattle.refusal.proofs.Tellings.{clash, same_refusal, true_not_false}
 use Rattle.trace.specs.declared.CircuitEvaluation.{CircuitEvaluation}
-use Rattle.trace.specs.declared.OpenAnswer.TheVariants as opening
+use Rattle.std.proofs.Common.{Result, Ok, Err, is_err}
+use Rattle.refusal.specs.declared.Refusal.{Refusal}
 use Rattle.trace.specs.declared.RecordHeader.{RecordHeader}
-use Rattle.trace.specs.declared.OutputAnswer.{OutputAnswer}
-use Rattle.trace.specs.declared.OutputAnswer.TheVariants as output
 use Rattle.trace.specs.Counts.{most_wires, node_cells, room}
 use Rattle.trace.specs.State.{wires_of}
 use Rattle.trace.specs.Inside.{Room}
@@ -32,7 +31,7 @@ use Rattle.field.specs.Lists.{each}
 use Rattle.eval_circuit.specs.Inside.{circuit_of, after, stage, Past, Prepared, Ran}
 use Rattle.eval_circuit.proofs.Gates.{First, Passed, gate_refused, gates_refused}
 use Rattle.eval_circuit.proofs.RegionCells.{memory_most, region_length, region_at, cells_pass}
-use Rattle.eval_circuit.proofs.RegionTests.{Region, region_pass}
+use Rattle.eval_circuit.proofs.RegionTests.{Region, region_of, region_pass}
 
 -- a refusal from 1 to 5 does not ask what comes after
 five : (a b d f g : Bool) (u : Told) (vs : List ℕ) (n k : ℕ)
@@ -99,8 +98,8 @@ module _ (ctx clk ptr num-vars num-eval : ℕ) (memory : List ℕ) (b : Lent) wh
         counts_pass most_wires reads num-eval _ (record { few = omega arith; reads = omega arith; evals = r.some_evals })
 
     -- opening refuses only a short buffer
-    pub stops_short : (n k : ℕ) → refused n k ≡ open_answer ctx clk reads num-eval b → (refused 6 0 ≡ answer) × (b ≡ buffers)
-    stops_short n k e = (told, kept 6 0 (omega arith) told)
+    pub stops_short : (n k : ℕ) → refused n k ≡ open_answer ctx clk reads num-eval b → (refused n k ≡ answer) × (b ≡ buffers)
+    stops_short n k e = (e ∙ opens ∙ rw short told, kept 6 0 (omega arith) told)
       where
         short : fit ≡ false
         short = no-fit fit (e ∙ opens)
@@ -116,9 +115,9 @@ module _ (ctx clk ptr num-vars num-eval : ℕ) (memory : List ℕ) (b : Lent) wh
     opened_is s e = by-fit fit (e ∙ opens)
       where
         by-fit : (x : Bool) → accepted (numbers_of s) ≡ cond x (accepted (numbers_of (opened ctx clk reads num-eval))) (refused 6 0) → (x ≡ true) × (s ≡ opened ctx clk reads num-eval)
-        by-fit true q = (refl, same (open_determined (opening.Opened s) (opening.Opened (opened ctx clk reads num-eval)) q))
+        by-fit true q = (refl, same (open_determined (Ok s) (Ok (opened ctx clk reads num-eval)) q))
           where
-            same : opening.Opened s ≡ opening.Opened (opened ctx clk reads num-eval) → s ≡ opened ctx clk reads num-eval
+            same : ◌≡◌ {A = Result CircuitEvaluation Refusal} (Ok s) (Ok (opened ctx clk reads num-eval)) → s ≡ opened ctx clk reads num-eval
             same o = cc
         by-fit false q = clash (sym q)
 
@@ -243,19 +242,26 @@ module _ (ctx clk ptr num-vars num-eval : ℕ) (memory : List ℕ) (b : Lent) wh
               t = answer-is (refused n k) q
 
           -- by what the run of steps answered
-          module _ (a : OutputAnswer) (d : Lent) (q : output_told a ≡ circuit_answer s.ctx s.clk (circuit_of s memory ptr)) (ran : Ran a s (circuit_of s memory ptr) ptr d b) where
-            pub ends_zero : (i : RecordHeader) → a ≡ output.Zero i → (output_told (output.Zero i) ≡ answer) × (d ≡ buffers)
-            ends_zero i z =
-                let l : Ran (output.Zero i) s (circuit_of s memory ptr) ptr d b = rw z at ran in
-                ends_accepted _ d (ap output_told (sym z) ∙ q) l
+          module _ (a : Result RecordHeader Refusal) (d : Lent) (q : output_told a ≡ circuit_answer s.ctx s.clk (circuit_of s memory ptr)) (ran : Ran a s (circuit_of s memory ptr) ptr d b) where
+            pub ends_zero : is_err a ≡ false → (output_told a ≡ answer) × (d ≡ buffers)
+            ends_zero = by a q ran
+              where
+                by : (x : Result RecordHeader Refusal) → output_told x ≡ circuit_answer s.ctx s.clk (circuit_of s memory ptr) → Ran x s (circuit_of s memory ptr) ptr d b
+                    → is_err x ≡ false → (output_told x ≡ answer) × (d ≡ buffers)
+                by (Ok h) i l z = ends_accepted _ d i l
+                by (Err e) i l z = true_not_false z
 
-            pub ends_otherwise : (n k : ℕ) {vs cs ns : List ℕ} → a ≡ output.Refused n k
+            pub ends_otherwise : {vs cs ns : List ℕ} → is_err a ≡ true
                 → vs ≡ zeroed (2 * wires_of s) d.values → cs ≡ zeroed (wires_of s) d.counts → ns ≡ zeroed (node_cells s.num_read s.num_eval) d.nodes
                 → (output_told a ≡ answer) × (lent vs cs ns ≡ buffers)
-            ends_otherwise n k z ev ec en =
-                let l : Ran (output.Refused n k) s (circuit_of s memory ptr) ptr d b = rw z at ran in
-                let t = ends_refused n k d (ap output_told (sym z) ∙ q) l ev ec en in
-                (ap output_told z ∙ t.0, t.1)
+            ends_otherwise {vs = vs} {cs = cs} {ns = ns} = by a q ran
+              where
+                by : (x : Result RecordHeader Refusal) → output_told x ≡ circuit_answer s.ctx s.clk (circuit_of s memory ptr) → Ran x s (circuit_of s memory ptr) ptr d b
+                    → is_err x ≡ true
+                    → vs ≡ zeroed (2 * wires_of s) d.values → cs ≡ zeroed (wires_of s) d.counts → ns ≡ zeroed (node_cells s.num_read s.num_eval) d.nodes
+                    → (output_told x ≡ answer) × (lent vs cs ns ≡ buffers)
+                by (Ok h) i l z ev ec en = true_not_false (sym z)
+                by (Err e) i l z ev ec en = ends_refused _ _ d i l ev ec en
 
 -- the address that the look at the cells found, with the region's end as the code has it
 pub over_is : (memory : List ℕ) (ptr num-vars num-eval end over : ℕ) → over ≡ ptr + first_over (take (end - ptr) (drop ptr memory)) → end ≡ ptr + region_cells num-vars num-eval
@@ -263,6 +269,24 @@ pub over_is : (memory : List ℕ) (ptr num-vars num-eval end over : ℕ) → ove
 over_is memory ptr v e end over o q =
     let l : end - ptr ≡ region_cells v e = omega arith in
     o ∙ ap (λ (n : ℕ). ptr + first_over (take n (drop ptr memory))) l
+
+-- what is known of a circuit once its region has been tested, it has been opened and its cells have been looked at
+pub record Looked (ctx clk ptr num-vars num-eval : ℕ) (memory : List ℕ) (b : Lent) (s : CircuitEvaluation) (over : ℕ) : Type 0 where
+  pub region : Region ptr num-vars num-eval (memory_cells memory)
+  pub fit : room (num-vars / 2) num-eval (length b.values) (length b.counts) (length b.nodes) ≡ true
+  pub state : s ≡ opened ctx clk (num-vars / 2) num-eval
+  pub found : over ≡ ptr + first_over (circuit_at memory ptr num-vars num-eval).cells
+
+pub looked : (ctx clk ptr num-vars num-eval : ℕ) (memory : List ℕ) (b : Lent) (s : CircuitEvaluation) (end over : ℕ)
+    → accepted [] ≡ of_region ptr num-vars num-eval (memory_cells memory) (accepted [])
+    → accepted (numbers_of s) ≡ open_answer ctx clk (num-vars / 2) num-eval b
+    → over ≡ ptr + first_over (take (end - ptr) (drop ptr memory))
+    → end ≡ ptr + region_cells num-vars num-eval
+    → Looked ctx clk ptr num-vars num-eval memory b s over
+looked ctx clk ptr v e memory b s end over t o f q =
+    let r = (region_of ptr v e (memory_cells memory) (accepted []) [] (sym t)).0 in
+    let i = opened_is ctx clk ptr v e memory b r s o in
+    record { region = r; fit = i.0; state = i.1; found = over_is memory ptr v e end over f q }
 
 -- what a run leaves has room still
 pub room_after : (s : CircuitEvaluation) (memory : List ℕ) (ptr : ℕ) (b : Lent) (vs cs ns : List ℕ) → Prepared s memory ptr b

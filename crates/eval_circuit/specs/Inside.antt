@@ -1,13 +1,13 @@
 -- What the private functions promise each other. No public contract cites this file.
 -- Assumes nothing.
-use Rattle.std.specs.Prelude.{◌≡◌, ℕ, ◌+◌, ◌*◌, ◌≤◌, ◌<◌, List, [], ◌∷◌, ◌++◌, length, get_or, drop}
+use Rattle.std.specs.Prelude.{◌≡◌, ℕ, ◌+◌, ◌*◌, ◌≤◌, ◌<◌, List, [], ◌∷◌, ◌++◌, Result, Ok, Err, length, get_or, drop}
 use Rattle.refusal.specs.Told.{Told, accepted, refused}
+use Rattle.refusal.specs.Refusal.{number_of, place_of}
+use Rattle.refusal.specs.declared.Refusal.{Refusal}
 use Rattle.field.specs.Field.{p}
 use Rattle.trace.specs.declared.CircuitEvaluation.{CircuitEvaluation}
-use Rattle.trace.specs.declared.StepAnswer.{StepAnswer}
-use Rattle.trace.specs.declared.StepAnswer.TheVariants.{Done, Refused}
-use Rattle.trace.specs.declared.OutputAnswer.{OutputAnswer}
-use Rattle.trace.specs.declared.OutputAnswer.TheVariants as output
+use Rattle.trace.specs.declared.RecordHeader.{RecordHeader}
+use Rattle.trace.specs.declared.RefusedStep.{RefusedStep}
 use Rattle.trace.specs.Counts.{most_wires, wires, node_cells}
 use Rattle.trace.specs.State.{wires_of, next_id}
 use Rattle.trace.specs.Outcome.{Lent, lent}
@@ -66,15 +66,15 @@ abbrev pub word_at : List ℕ → ℕ → List (List ℕ)
 word_at memory at = (get_or memory at 0 ∷ get_or memory (at + 1) 0 ∷ []) ∷ (get_or memory (at + 2) 0 ∷ get_or memory (at + 3) 0 ∷ []) ∷ []
 
 -- what a step's answer tells
-abbrev pub step_told : StepAnswer → Told
-step_told (Done s) = accepted []
-step_told (Refused s number place) = refused number place
+abbrev pub step_told : Result CircuitEvaluation RefusedStep → Told
+step_told (Ok s) = accepted []
+step_told (Err e) = refused (number_of e.refusal) (place_of e.refusal)
 
 -- what is left where all gates are accepted, and where one is not
-abbrev pub Left : StepAnswer → CircuitEvaluation → Circuit → ℕ → Lent → Lent → Type 0
-Left (Done t) s c ptr a b = (t ≡ after s s.num_read s.num_eval) × (a ≡ stage c ptr s.num_read s.num_eval b)
-Left (Refused t number place) s c ptr a b = Past c (node_cells s.num_read s.num_eval) a b
+abbrev pub Left : Result CircuitEvaluation RefusedStep → CircuitEvaluation → Circuit → ℕ → Lent → Lent → Type 0
+Left (Ok t) s c ptr a b = (t ≡ after s s.num_read s.num_eval) × (a ≡ stage c ptr s.num_read s.num_eval b)
+Left (Err e) s c ptr a b = Past c (node_cells s.num_read s.num_eval) a b
 
-abbrev pub Ran : OutputAnswer → CircuitEvaluation → Circuit → ℕ → Lent → Lent → Type 0
-Ran (output.Zero h) s c ptr a b = a ≡ stage c ptr s.num_read s.num_eval b
-Ran (output.Refused number place) s c ptr a b = Past c (node_cells s.num_read s.num_eval) a b
+abbrev pub Ran : Result RecordHeader Refusal → CircuitEvaluation → Circuit → ℕ → Lent → Lent → Type 0
+Ran (Ok h) s c ptr a b = a ≡ stage c ptr s.num_read s.num_eval b
+Ran (Err e) s c ptr a b = Past c (node_cells s.num_read s.num_eval) a b

@@ -13,9 +13,9 @@ ghost use Rattle.eval_circuit.specs.Evaluated.{eval_answer, eval_buffers};
 use crate::clear::clear;
 use crate::region::test_region;
 use crate::steps::run;
-use field::NOT_ELEMENT;
 use field::cells::first_over;
-use trace::{CircuitEvaluation, OpenAnswer, OutputAnswer, SHORT_BUFFER, Tested};
+use refusal::Refusal;
+use trace::{CircuitEvaluation, RecordHeader};
 
 // "Order 1 to 7, then gate by gate 8, 9, 10, then 12. 1 to 7 change nothing. 8, 9, 10 and 12 leave
 // the used value cells, counts and node cells zero."
@@ -29,30 +29,22 @@ pub fn eval_circuit(
     values: &mut [u64],
     counts: &mut [u32],
     nodes: &mut [u64],
-) -> OutputAnswer
+) -> Result<RecordHeader, Refusal>
     ensures result_value { output_told result ≡ eval_answer ctx clk ptr num_vars num_eval memory.now (lent values.old counts.old nodes.old) }
     ensures nodes_after { lent values.new counts.new nodes.new ≡ eval_buffers ctx clk ptr num_vars num_eval memory.now (lent values.old counts.old nodes.old) }
 {
-    let tested = test_region(ptr, num_vars, num_eval, memory.len());
-    if let Tested::Refused(number, place) = tested {
-        return OutputAnswer::Refused(number, place);
-    }
+    test_region(ptr, num_vars, num_eval, memory.len())?;
     let num_read = (num_vars / 2) as u32;
-    let opened = CircuitEvaluation::new(ctx, clk, num_read, num_eval as u32, values, counts, nodes);
-    // Its counts have been tested, so a refusal is that of a short buffer.
-    let OpenAnswer::Opened(state) = opened else {
-        return OutputAnswer::Refused(SHORT_BUFFER, 0);
-    };
+    let state = CircuitEvaluation::new(ctx, clk, num_read, num_eval as u32, values, counts, nodes)?;
     let start = ptr as usize;
     let end = start + 2 * num_vars as usize + num_eval as usize;
     let over = first_over(memory, start, end);
     if over < end {
-        return OutputAnswer::Refused(NOT_ELEMENT, over as u64);
+        return Err(Refusal::NotElement(over as u64));
     }
     let answer = run(state, memory, start, values, counts, nodes);
-    let OutputAnswer::Zero(header) = answer else {
+    if answer.is_err() {
         clear(state, values, counts, nodes);
-        return answer;
-    };
-    OutputAnswer::Zero(header)
+    }
+    answer
 }

@@ -7,7 +7,8 @@ ghost use Rattle.eval_circuit.specs.Circuit.{gates_answer};
 ghost use Rattle.eval_circuit.specs.Evaluated.{circuit_answer};
 ghost use Rattle.eval_circuit.specs.Inside.{circuit_of, word_at, after, stage, Prepared, step_told, Left, Ran};
 
-use trace::{CircuitEvaluation, OutputAnswer, StepAnswer};
+use refusal::Refusal;
+use trace::{CircuitEvaluation, RecordHeader, RefusedStep};
 
 // "A memory word is two pairs, first cells first, held as an array of two pairs."
 fn word_at(memory: &[u64], at: usize) -> [[u64; 2]; 2]
@@ -27,7 +28,7 @@ fn do_reads(
     values: &mut [u64],
     counts: &mut [u32],
     nodes: &mut [u64],
-) -> StepAnswer
+) -> Result<CircuitEvaluation, RefusedStep>
     requires { Prepared state memory.now start (lent values.old counts.old nodes.old) × (state ≡ after state 0 0) }
     ensures { step_outcome result (lent values.new counts.new nodes.new) ≡ outcome (accepted []) (after state state.num_read 0) (stage (circuit_of state memory.now start) start state.num_read 0 (lent values.old counts.old nodes.old)) }
 {
@@ -35,15 +36,12 @@ fn do_reads(
     for i in 0..state.num_read as usize {
         let at = start + 4 * i;
         let word = word_at(memory, at);
-        let step = read.do_read(at as u64, word, values, counts, nodes);
-        let StepAnswer::Done(next) = step else {
-            return step;
-        };
+        let next = read.do_read(at as u64, word, values, counts, nodes)?;
         // A step leaves the rest of the state as it is, and not copying it is faster.
         read.reads_done = next.reads_done;
         read.id_next = next.id_next;
     }
-    StepAnswer::Done(read)
+    Ok(read)
 }
 
 fn do_evals(
@@ -53,7 +51,7 @@ fn do_evals(
     values: &mut [u64],
     counts: &mut [u32],
     nodes: &mut [u64],
-) -> StepAnswer
+) -> Result<CircuitEvaluation, RefusedStep>
     requires { Prepared state memory.now start (lent values.old counts.old nodes.old) × (state ≡ after state state.num_read 0) × (lent values.old counts.old nodes.old ≡ stage (circuit_of state memory.now start) start state.num_read 0 (lent values.old counts.old nodes.old)) }
     ensures result_value { step_told result ≡ gates_answer state.num_eval 0 (circuit_of state memory.now start) (accepted []) }
     ensures left { Left result state (circuit_of state memory.now start) start (lent values.new counts.new nodes.new) (lent values.old counts.old nodes.old) }
@@ -62,14 +60,11 @@ fn do_evals(
     let mut made = state;
     for i in 0..state.num_eval as usize {
         let at = gates + i;
-        let step = made.do_eval(at as u64, memory[at], values, counts, nodes);
-        let StepAnswer::Done(next) = step else {
-            return step;
-        };
+        let next = made.do_eval(at as u64, memory[at], values, counts, nodes)?;
         made.evals_done = next.evals_done;
         made.id_next = next.id_next;
     }
-    StepAnswer::Done(made)
+    Ok(made)
 }
 
 // "All READ steps come before the EVAL steps."
@@ -80,15 +75,12 @@ fn do_steps(
     values: &mut [u64],
     counts: &mut [u32],
     nodes: &mut [u64],
-) -> StepAnswer
+) -> Result<CircuitEvaluation, RefusedStep>
     requires { Prepared state memory.now start (lent values.old counts.old nodes.old) × (state ≡ after state 0 0) }
     ensures result_value { step_told result ≡ gates_answer state.num_eval 0 (circuit_of state memory.now start) (accepted []) }
     ensures left { Left result state (circuit_of state memory.now start) start (lent values.new counts.new nodes.new) (lent values.old counts.old nodes.old) }
 {
-    let reads = do_reads(state, memory, start, values, counts, nodes);
-    let StepAnswer::Done(read) = reads else {
-        return reads;
-    };
+    let read = do_reads(state, memory, start, values, counts, nodes)?;
     do_evals(read, memory, start, values, counts, nodes)
 }
 
@@ -100,14 +92,11 @@ pub fn run(
     values: &mut [u64],
     counts: &mut [u32],
     nodes: &mut [u64],
-) -> OutputAnswer
+) -> Result<RecordHeader, Refusal>
     requires { Prepared state memory.now start (lent values.old counts.old nodes.old) × (state ≡ after state 0 0) }
     ensures result_value { output_told result ≡ circuit_answer state.ctx state.clk (circuit_of state memory.now start) }
     ensures ran { Ran result state (circuit_of state memory.now start) start (lent values.new counts.new nodes.new) (lent values.old counts.old nodes.old) }
 {
-    let steps = do_steps(state, memory, start, values, counts, nodes);
-    match steps {
-        StepAnswer::Done(done) => done.output_value(values, counts, nodes),
-        StepAnswer::Refused(_, number, place) => OutputAnswer::Refused(number, place),
-    }
+    let done = do_steps(state, memory, start, values, counts, nodes)?;
+    done.output_value(values, counts, nodes)
 }

@@ -22,7 +22,7 @@ pub below_append : (bound : ℕ) (xs ys : List ℕ) → AllBelow bound xs → Al
 below_append bound [] ys h k = k
 below_append bound (x ∷ xs) ys h k = (h.0, below_append bound xs ys h.1 k)
 
-below_at : (bound : ℕ) (xs : List ℕ) → AllBelow bound xs → (k : ℕ) → k < length xs → get_or xs k 0 < bound
+pub below_at : (bound : ℕ) (xs : List ℕ) → AllBelow bound xs → (k : ℕ) → k < length xs → get_or xs k 0 < bound
 below_at bound [] h k l = absurd (omega arith)
 below_at bound (x ∷ xs) h zero l = h.0
 below_at bound (x ∷ xs) h (suc k) l = below_at bound xs h.1 k (omega arith)

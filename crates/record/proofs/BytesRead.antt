@@ -7,6 +7,7 @@ use native.Mathlib.Nat.{zero-add}
 use native.Mathlib.Omega.{arith}
 use lib.ListN.{length, get_or, take, drop, length-drop}
 use lib.Seq.{length-take-le, take-add}
+use Rattle.std.proofs.lemmas.Bool.Decides.{nat_tests}
 use Rattle.refusal.specs.Told.{accepted}
 use Rattle.field.specs.Field.{p}
 use Rattle.field.specs.Lists.{each}
@@ -30,8 +31,10 @@ use Rattle.record.specs.Reading.{
   eval_list_at,
   evals_in,
   evals_at,
+  end_at,
   declared_answer,
   nodes_answer,
+  end_answer,
   fields_answer,
   header_in,
 }
@@ -39,9 +42,8 @@ use Rattle.record.proofs.Bounds.{AllBelow, below_wider, below_append, each_below
 use Rattle.record.proofs.Sequence.{Stand, written_stand}
 use Rattle.record.proofs.WireList.{wires-used}
 use Rattle.record.proofs.RecordParts.{wire_list, read_list, eval_list}
-use Rattle.record.proofs.Loads.{header_is}
-use Rattle.record.proofs.Tests.{declared_is, ends}
-use Rattle.record.proofs.Fields.{fields_end}
+use Rattle.record.proofs.Ways.{goes_on}
+use Rattle.record.proofs.Tests.{nodes_accepted}
 use Rattle.record.proofs.FieldsFound.{values_in, counts_in, read_cells_in, eval_cells_in}
 use Rattle.record.proofs.FieldsRead.{HeadRead, head_read, ListRead, list_read, LengthsRead, lengths_read, nodes_pass, ReadsRead, reads_read, EvalsRead, evals_read}
 
@@ -152,15 +154,12 @@ module _ (h : RecordHeader) (b : Lent) (r : Recorded h b)
       evals = evals_read h.num_eval (eval_cells h b) s (length s) reads.others evals-many
 
       declared-told : declared_answer (wires_in s) s (declared_at s) ≡ accepted (declared_in s ∷ read_list_at s ∷ [])
+      unfolding declared_answer declared_in read_list_at
       declared-told =
           let n = head.wires_are in
           let d = lengths.declared_is in
-          sym
-          (declared_is (wires_in s) s (declared_at s) (declared_in s) (read_list_at s)
-          (below_accepted u32 s (declared_at s) (declared_in s) (read_list_at s) lengths.declared_read (omega (arith, d, r.few)))
-          (λ z. omega (arith, d, z, r.some_evals))
-          (omega (arith, d, r.few))
-          (omega (arith, n, d)))
+          let below = below_accepted u32 s (declared_at s) (declared_in s) (read_list_at s) lengths.declared_read (omega (arith, d, r.few)) in
+          grind (arith, nat_tests, goes_on, n, d, r.few, r.some_evals)
 
       reads-told : nodes_answer 0 7 nodes s (read_list_at s) ≡ accepted (reads_in s ∷ eval_list_at s ∷ [])
       reads-told =
@@ -178,16 +177,12 @@ module _ (h : RecordHeader) (b : Lent) (r : Recorded h b)
           (omega (arith, n, e, f.for_nodes))
 
       fields : fields_answer s values counts nodes ≡ accepted (declared_in s ∷ length s ∷ [])
+      unfolding fields_answer end_answer evals_in evals_at end_at
       fields =
           let n = lengths.reads_are in
           let e = evals.evals_are in
-          sym
-          (ends (reads_in s) (evals_in s) (declared_in s) (length s) (length s)
-          (λ z. omega (arith, e, z, r.some_evals))
-          (omega (arith, n, e, r.few))
-          (omega (arith, n, e, lengths.declared_is))
-          (omega arith)
-          ∙ fields_end s values counts nodes _ _ head.answer _ _ list.answer _ _ declared-told _ _ reads-told _ _ evals-told)
+          let end = (nodes_accepted (7 * reads_in s) 11 nodes s (eval_list_at s) (evals_in s) (length s) evals-told).1 in
+          grind (arith, nat_tests, goes_on, head.answer, list.answer, declared-told, reads-told, evals-told, n, e, r.few, r.some_evals, lengths.declared_is)
 
 -- what the reader finds in the bytes s, for so many value cells, counts and node cells, is the record of h and b
 pub record BytesRead (h : RecordHeader) (b : Lent) (s : List ℕ) (values counts nodes : ℕ) : Type 0 where
@@ -209,7 +204,7 @@ bytes_read h b r x l c values counts nodes f =
     let es = evals h b r x l c s st values counts nodes f in
     record {
       answer = fields h b r x l c s st values counts nodes f;
-      header = header_is s _ _ _ _ _ hd.ctx_is hd.clk_is ns.reads_are es.evals_are hd.id_is;
+      header = cc (hd.ctx_is, hd.clk_is, ns.reads_are, es.evals_are, hd.id_is);
       values_are = ls.values_are;
       counts_are = ls.counts_are;
       nodes_are =

@@ -8,7 +8,7 @@ use native.Mathlib.Omega.{arith}
 use lib.ListN.{length, set, length-set}
 use lib.Seq.{sets}
 use Rattle.record.specs.Numbers.{number_at, next_at, after, numbers_from}
-use Rattle.record.proofs.Places.{after_none, after_more, from_none, from_more}
+use Rattle.record.proofs.Places.{after_more, from_none, from_more}
 
 pub record Loading (s : List ℕ) (at n : ℕ) (old : List ℕ) (from : ℕ) (cells : List ℕ) (next i : ℕ) : Type 0 where
   pub same : length cells ≡ length old
@@ -38,9 +38,6 @@ module _ (s : List ℕ) (at n : ℕ) (old : List ℕ) (from : ℕ) where
               ∙ ap (sets cells (from + i)) (sym (from_more (n - (i + 1)) s next) ∙ ap (λ (k : ℕ). numbers_from k s next) (sym m))
               ∙ l.stored;
         }
-
-    pub loaded_place : n ≤ i → next ≡ after n s at
-    loaded_place h = let z : n - i ≡ 0 = omega arith in sym (after_none s next) ∙ ap (λ (k : ℕ). after k s next) (sym z) ∙ l.place
 
     pub loaded_cells : n ≤ i → cells ≡ sets old from (numbers_from n s at)
     loaded_cells h =

@@ -5,6 +5,7 @@ use mathlib.Core.Path.{◌≡◌, refl, sym, ap, ◌∙◌}
 use mathlib.Core.List.{List, [], ◌∷◌, ◌++◌}
 use native.Mathlib.Omega.{arith}
 use lib.ListN.{length}
+use Rattle.std.proofs.lemmas.Bool.Decides.{nat_tests}
 use Rattle.refusal.specs.Told.{accepted}
 use Rattle.field.specs.Field.{p}
 use Rattle.field.specs.Lists.{each}
@@ -30,13 +31,13 @@ use Rattle.record.specs.Reading.{
   wire_list_answer,
   nodes_answer,
 }
-use Rattle.record.proofs.Places.{number_is, read_of}
+use Rattle.record.proofs.Ways.{goes_on}
+use Rattle.record.proofs.Places.{number_is, next_is, read_of}
 use Rattle.record.proofs.Bounds.{AllBelow}
 use Rattle.record.proofs.Sequence.{Stand, stand_from, stand_split_at}
-use Rattle.record.proofs.Numbers.{numbers_pass}
+use Rattle.record.proofs.Numbers.{numbers_pass, place_after}
 use Rattle.record.proofs.WireList.{wires-length, wires-read}
-use Rattle.record.proofs.Heads.{head_is, list-fits}
-use Rattle.record.proofs.Tests.{nodes_are}
+use Rattle.record.proofs.Heads.{list-fits}
 use Rattle.record.proofs.FieldsFound.{values_in, counts_in, read_cells_in, eval_cells_in}
 
 -- ctx, clk, id_next and the wire list's length
@@ -50,7 +51,7 @@ pub record HeadRead (ctx clk id n : ℕ) (rest s : List ℕ) (end : ℕ) : Type 
   pub answer : head_answer s ≡ accepted (wires_in s ∷ wires_at s ∷ [])
 
 pub head_read : (ctx clk id n : ℕ) (rest s : List ℕ) (end : ℕ) → Stand (ctx ∷ clk ∷ id ∷ n ∷ rest) s 0 end → ctx < u32 → clk < u32 → id < p → HeadRead ctx clk id n rest s end
-unfolding ctx_in clk_in id_next_in wires_in wires_at after
+unfolding ctx_in clk_in id_next_in wires_in wires_at after head_answer
 head_read ctx clk id n rest s end h lx ll li =
     let h₁ = h.1 in
     let h₂ = h₁.1 in
@@ -62,10 +63,8 @@ head_read ctx clk id n rest s end h lx ll li =
       wires_are = number_is s (after 3 s 0) n (after 4 s 0) h₃.0;
       others = h₃.1;
       answer =
-          sym
-          (head_is s 0 (after 2 s 0) (numbers_pass u32 s (ctx ∷ clk ∷ []) 0 (after 2 s 0) (h.0, (h₁.0, refl)) (lx, (ll, tt)))
-          0 (after 3 s 0) (numbers_pass p s (id ∷ []) (after 2 s 0) (after 3 s 0) (h₂.0, refl) (li, tt)))
-          ∙ read_of s (after 3 s 0) (n ∷ after 4 s 0 ∷ []) h₃.0;
+          rw (numbers_pass u32 s (ctx ∷ clk ∷ []) 0 (after 2 s 0) (h.0, (h₁.0, refl)) (lx, (ll, tt)), numbers_pass p s (id ∷ []) (after 2 s 0) (after 3 s 0) (h₂.0, refl) (li, tt))
+          (read_of s (after 3 s 0) (n ∷ after 4 s 0 ∷ []) h₃.0);
     }
 
 -- the wire list
@@ -110,10 +109,13 @@ lengths_read n r rest s end h =
 
 pub nodes_pass : (used width nodes n : ℕ) (xs s : List ℕ) (at cells_at end : ℕ) → read_answer s at ≡ accepted (n ∷ cells_at ∷ []) → Stand xs s cells_at end → AllBelow p xs
     → length xs ≡ width * n → used + width * n ≤ nodes → nodes_answer used width nodes s at ≡ accepted (n ∷ end ∷ [])
+unfolding nodes_answer
 nodes_pass used width nodes n xs s at cells_at end e h b l room =
-    sym
-    (nodes_are used width nodes s at n cells_at e room 0 end
-    (ap (λ (k : ℕ). numbers_answer p k s cells_at) (sym l) ∙ numbers_pass p s xs cells_at end h b))
+    let len = number_is s at n cells_at e in
+    let here = next_is s at n cells_at e in
+    let cells = ap (λ (k : ℕ). numbers_answer p k s cells_at) (sym l) ∙ numbers_pass p s xs cells_at end h b in
+    let behind = place_after p s (width * n) cells_at 0 end cells in
+    grind (arith, nat_tests, goes_on)
 
 pub record ReadsRead (rc rest s : List ℕ) (end : ℕ) : Type 0 where
   pub read_cells_are : read_cells_in s ≡ rc

@@ -1,44 +1,20 @@
 -- Looking at a record's head, ctx, clk, id_next and the wire list's length, and at the wire list behind it.
 -- Assumes nothing.
-use Prim.Native.Nat.{ℕ, ◌*◌, ◌/◌, ◌≤◌, ◌<◌}
-use mathlib.Core.Path.{◌≡◌, refl, sym, ap, ◌∙◌}
+use Prim.Native.Nat.{ℕ, ◌*◌, ◌≤◌, ◌<◌}
+use mathlib.Core.Path.{◌≡◌, refl, sym, ◌∙◌}
 use mathlib.Core.List.{List, [], ◌∷◌}
-use native.Mathlib.Omega.{arith}
 use lib.Dec.{leb}
-use borrow.Author.Tests.{leb-true, le-leb, lt-leb}
-use Rattle.refusal.specs.Told.{accepted, refused, or_else}
+use borrow.Author.Tests.{leb-true, le-leb}
+use Rattle.refusal.specs.Told.{accepted}
 use Rattle.field.specs.Field.{p}
-use Rattle.numbers.specs.Answer.{read_answer}
-use Rattle.trace.proofs.Choices.{both, both_hold, first_fails, second_fails, passes}
-use Rattle.record.specs.Numbers.{after, numbers_from, numbers_answer}
+use Rattle.trace.proofs.Choices.{both, both_hold, passes}
+use Rattle.record.specs.Numbers.{after, numbers_from}
 use Rattle.record.specs.Reading.{u32, ctx_in, clk_in, id_next_in, wires_in, wires_at, head_answer, wires_answer, wire_list_answer}
-use Rattle.record.proofs.Ways.{values_are, goes_on, stops, passed}
+use Rattle.record.proofs.Ways.{values_are, passed}
 use Rattle.record.proofs.Places.{read_of}
 use Rattle.record.proofs.Sequence.{Stand}
-use Rattle.record.proofs.Numbers.{numbers_of, place_after, place_behind}
+use Rattle.record.proofs.Numbers.{numbers_of}
 use Rattle.record.proofs.WireList.{wires_accepted}
-
-module _ (s : List ℕ) where
-  pub head_off : (number place : ℕ) → numbers_answer u32 2 s 0 ≡ refused number place → refused number place ≡ head_answer s
-  unfolding head_answer
-  head_off n k e = sym (stops _ (or_else (numbers_answer p 1 s (after 2 s 0)) (read_answer s (after 3 s 0))) n k e)
-
-  module _ (v at : ℕ) (e : numbers_answer u32 2 s 0 ≡ accepted (v ∷ at ∷ [])) where
-    id-next-first : or_else (numbers_answer p 1 s (after 2 s 0)) (read_answer s (after 3 s 0)) ≡ head_answer s
-    unfolding head_answer
-    id-next-first = sym (goes_on _ (or_else (numbers_answer p 1 s (after 2 s 0)) (read_answer s (after 3 s 0))) (v ∷ at ∷ []) e)
-
-    at-is : at ≡ after 2 s 0
-    at-is = place_after u32 s 2 0 v at e
-
-    pub id_next_off : (number place : ℕ) → numbers_answer p 1 s at ≡ refused number place → refused number place ≡ head_answer s
-    id_next_off n k f = sym (stops _ (read_answer s (after 3 s 0)) n k (ap (numbers_answer p 1 s) (sym at-is) ∙ f)) ∙ id-next-first
-
-    pub head_is : (w next : ℕ) → numbers_answer p 1 s at ≡ accepted (w ∷ next ∷ []) → read_answer s next ≡ head_answer s
-    head_is w next f =
-        ap (read_answer s) (place_behind u32 p s 2 1 0 v at w next e f)
-        ∙ sym (goes_on _ (read_answer s (after 3 s 0)) (w ∷ next ∷ []) (ap (numbers_answer p 1 s) (sym at-is) ∙ f))
-        ∙ id-next-first
 
 -- a head that is accepted
 pub record Head (s vs : List ℕ) : Type 0 where
@@ -71,14 +47,6 @@ pub list_at : (s : List ℕ) (n at : ℕ) → head_answer s ≡ accepted (n ∷ 
 list_at s n at e = (values_are (wires_in s) (wires_at s) n at (head_of s (n ∷ at ∷ []) e).answer).1
 
 module _ (n : ℕ) (s : List ℕ) (at values counts : ℕ) where
-  pub few_values : values / 2 < n → refused 24 0 ≡ wire_list_answer n s at values counts
-  unfolding wire_list_answer
-  few_values h = rw (first_fails (leb (2 * n) values) (leb n counts) (lt-leb (2 * n) values (omega arith)))
-
-  pub few_counts : counts < n → refused 24 0 ≡ wire_list_answer n s at values counts
-  unfolding wire_list_answer
-  few_counts h = rw (second_fails (leb (2 * n) values) (leb n counts) (lt-leb n counts h))
-
   pub list-fits : 2 * n ≤ values → n ≤ counts → wires_answer n s at ≡ wire_list_answer n s at values counts
   unfolding wire_list_answer
   list-fits h k = rw (both_hold (leb (2 * n) values) (leb n counts) (le-leb (2 * n) values h) (le-leb n counts k))

@@ -8,7 +8,6 @@ pub mod Wires
 pub mod WireList
 pub mod Heads
 pub mod Tests
-pub mod Fields
 pub mod FieldsFound
 pub mod Standing
 pub mod CellLoads

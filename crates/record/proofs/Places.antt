@@ -2,15 +2,17 @@
 -- Assumes nothing.
 use Prim.Native.Nat.{ℕ, zero, suc, ◌+◌, ◌<◌}
 use mathlib.Core.Path.{◌≡◌, refl, sym, ap, ◌∙◌}
-use mathlib.Core.List.{List, [], ◌∷◌}
+use mathlib.Core.List.{List, [], ◌∷◌, ◌++◌}
 use native.Mathlib.Nat.{zero-add, suc-add}
+use native.Mathlib.Numerals.{add-one}
 use lib.Dec.{ltb}
 use lib.ListN.{length, drop}
 use borrow.Author.Tests.{ltb-true}
-use Rattle.refusal.specs.Told.{accepted, refused}
+use Rattle.refusal.specs.Told.{accepted}
 use Rattle.refusal.proofs.Tellings.{clash}
 use Rattle.numbers.specs.Form.{Found, found, cut_off, not_shortest, find_from}
 use Rattle.numbers.specs.Answer.{found_at, within, read_answer, read_below_answer}
+use Rattle.numbers.proofs.Below.{below_is_read}
 use Rattle.trace.proofs.Choices.{passes}
 use Rattle.record.specs.Numbers.{number_told, next_told, number_at, next_at, after, numbers_from}
 
@@ -24,13 +26,8 @@ module _ (s : List ℕ) (at : ℕ) where
   unfolding next_at
   next_is v next e = ap (next_told at) (sym e)
 
-  pub no_number : (number place : ℕ) → read_answer s at ≡ refused number place → 0 ≡ number_at s at
-  unfolding number_at
-  no_number n k e = ap number_told (sym e)
-
-  pub no_next : (number place : ℕ) → read_answer s at ≡ refused number place → at ≡ next_at s at
-  unfolding next_at
-  no_next n k e = ap (next_told at) (sym e)
+  pub below_found : (bound v next : ℕ) → read_below_answer bound s at ≡ accepted (v ∷ next ∷ []) → (v ≡ number_at s at) × (next ≡ next_at s at)
+  below_found bound v next e = let r = (below_is_read bound s at v next e).read in (number_is v next r, next_is v next r)
 
   -- a number that is accepted, and one that is accepted below a bound
   pub read_of : (vs : List ℕ) → read_answer s at ≡ accepted vs → read_answer s at ≡ accepted (number_at s at ∷ next_at s at ∷ [])
@@ -66,6 +63,9 @@ unfolding after
 after_last zero s at = refl
 after_last (suc n) s at = after_last n s (next_at s at)
 
+pub after_next : (n : ℕ) (s : List ℕ) (at : ℕ) → after (n + 1) s at ≡ next_at s (after n s at)
+after_next n s at = rw (add-one n) (after_last n s at)
+
 pub after_two : (s : List ℕ) (at : ℕ) → after 2 s at ≡ next_at s (next_at s at)
 unfolding after
 after_two s at = refl
@@ -84,9 +84,13 @@ pub from_more : (n : ℕ) (s : List ℕ) (at : ℕ) → numbers_from (suc n) s a
 unfolding numbers_from
 from_more n s at = refl
 
-pub from_two : (s : List ℕ) (at : ℕ) → numbers_from 2 s at ≡ number_at s at ∷ number_at s (next_at s at) ∷ []
-unfolding numbers_from
-from_two s at = refl
+from_last : (n : ℕ) (s : List ℕ) (at : ℕ) → numbers_from (suc n) s at ≡ numbers_from n s at ++ (number_at s (after n s at) ∷ [])
+unfolding after numbers_from
+from_last zero s at = refl
+from_last (suc n) s at = ap (λ (l : List ℕ). number_at s at ∷ l) (from_last n s (next_at s at))
+
+pub from_next : (n : ℕ) (s : List ℕ) (at : ℕ) → numbers_from (n + 1) s at ≡ numbers_from n s at ++ (number_at s (after n s at) ∷ [])
+from_next n s at = rw (add-one n) (from_last n s at)
 
 pub length_from : (n : ℕ) (s : List ℕ) (at : ℕ) → length (numbers_from n s at) ≡ n
 unfolding numbers_from

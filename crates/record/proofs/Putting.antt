@@ -4,8 +4,9 @@ use mathlib.Core.Path.{◌≡◌, sym, ap, ap₂, ◌∙◌}
 use mathlib.Core.List.{List, [], ◌∷◌, ◌++◌}
 use Prim.Native.Nat.{ℕ, ◌+◌, ◌≤◌, ◌<◌}
 use native.Mathlib.Omega.{arith}
-use lib.ListN.{length, get_or, take, drop}
+use lib.ListN.{length, get_or, take}
 use lib.Seq.{sets, length-sets}
+use Rattle.std.proofs.lemmas.List.{take_more}
 use Rattle.field.specs.Lists.{each}
 use Rattle.refusal.specs.Told.{accepted, refused}
 use Rattle.field.proofs.Each.{each_none}
@@ -16,7 +17,7 @@ use Rattle.numbers.specs.Answer.{write_answer}
 use Rattle.numbers.proofs.Writing.{room_answer}
 use Rattle.record.specs.Bytes.{bytes_of_all, wire_numbers}
 use Rattle.record.specs.Numbers.{number_told}
-use Rattle.record.proofs.Widths.{taken, taken_none, taken_more, taken_append, bytes_none, bytes_one, bytes-append, cells_next, cells_taken, cells-within, wires_next, wires-within}
+use Rattle.record.proofs.Widths.{taken, taken_none, taken_more, taken_append, bytes_none, bytes_one, bytes-append, taken_next, taken_within, wires_next, wires_taken_next, wires-within}
 
 -- `put` where there is room
 module _ (v : ℕ) (out : List ℕ) (at : ℕ) (h : at + width_of v ≤ length out) where
@@ -31,13 +32,10 @@ pub record Wrote (old : List ℕ) (at : ℕ) (vs out : List ℕ) (next : ℕ) : 
   pub place : next ≡ at + taken vs
   pub bytes : out ≡ sets old at (bytes_of_all vs)
 
-pub wrote : (old : List ℕ) (at : ℕ) (vs out : List ℕ) (next : ℕ) → next ≡ at + taken vs → out ≡ sets old at (bytes_of_all vs) → Wrote old at vs out next
-wrote old at vs out next e q = record { place = e; bytes = q }
-
 pub wrote_none : (old : List ℕ) (at : ℕ) → Wrote old at [] old at
 wrote_none old at = record { place = omega (arith, taken_none); bytes = ap (λ (l : List ℕ). sets old at l) (sym bytes_none) }
 
-pub wrote_one : (old : List ℕ) (at v : ℕ) (out : List ℕ) (next : ℕ) → next ≡ at + width_of v → out ≡ sets old at (bytes_of v) → Wrote old at (v ∷ []) out next
+wrote_one : (old : List ℕ) (at v : ℕ) (out : List ℕ) (next : ℕ) → next ≡ at + width_of v → out ≡ sets old at (bytes_of v) → Wrote old at (v ∷ []) out next
 wrote_one old at v out next e q =
     record {
       place = omega (arith, e, taken_more v [], taken_none);
@@ -59,27 +57,13 @@ module _ {old : List ℕ} {at : ℕ} {vs mid : List ℕ} {m : ℕ} (w : Wrote ol
             ∙ ap (λ (l : List ℕ). sets old at l) (sym (bytes-append vs ws));
       }
 
-  pub wrote_then : (v : ℕ) (out : List ℕ) (next : ℕ) → next ≡ m + width_of v → out ≡ sets mid m (bytes_of v) → Wrote old at (vs ++ (v ∷ [])) out next
-  wrote_then v out next e q = wrote_on (v ∷ []) out next (wrote_one mid m v out next e q)
+-- a turn of `put_numbers`
+module _ (numbers : List ℕ) (i : ℕ) (h : i < length numbers) {old : List ℕ} {at : ℕ} {mid : List ℕ} {m : ℕ} (w : Wrote old at (take i numbers) mid m) where
+  pub number_room : at + taken numbers ≤ length old → m + width_of (get_or numbers i 0) ≤ length mid
+  number_room r = omega (arith, w.place, wrote_length w, taken_next numbers i h, taken_within numbers (i + 1))
 
-  -- where there is room for what was put and for more, there is room for that now, and for its first number
-  pub room_rest : (ws : List ℕ) → at + taken (vs ++ ws) ≤ length old → m + taken ws ≤ length mid
-  room_rest ws h = omega (arith, w.place, wrote_length, taken_append vs ws)
-
-  pub room_next : (v : ℕ) (ws : List ℕ) → at + taken (vs ++ (v ∷ ws)) ≤ length old → m + width_of v ≤ length mid
-  room_next v ws h = omega (arith, room_rest (v ∷ ws) h, taken_more v ws)
-
-pub room_first : (len at v : ℕ) (ws : List ℕ) → at + taken (v ∷ ws) ≤ len → at + width_of v ≤ len
-room_first len at v ws h = omega (arith, taken_more v ws)
-
--- a turn of `put_cells`
-module _ (cells : List ℕ) (from i : ℕ) {old : List ℕ} {at : ℕ} {mid : List ℕ} {m : ℕ} (w : Wrote old at (take i (drop from cells)) mid m) where
-  pub cell_room : (n : ℕ) → i < n → from + n ≤ length cells → at + taken (take n (drop from cells)) ≤ length old → m + width_of (get_or cells (from + i) 0) ≤ length mid
-  cell_room n l h r = omega (arith, w.place, wrote_length w, cells_taken cells from i (omega arith), cells-within cells from (i + 1) n (omega arith))
-
-  pub cell_wrote : (out : List ℕ) (next : ℕ) → from + i < length cells → next ≡ m + width_of (get_or cells (from + i) 0) → out ≡ sets mid m (bytes_of (get_or cells (from + i) 0))
-      → Wrote old at (take (i + 1) (drop from cells)) out next
-  cell_wrote out next h e q = rw (cells_next cells from i h) (wrote_then w (get_or cells (from + i) 0) out next e q)
+  pub number_wrote : (out : List ℕ) (next : ℕ) → next ≡ m + width_of (get_or numbers i 0) → out ≡ sets mid m (bytes_of (get_or numbers i 0)) → Wrote old at (take (i + 1) numbers) out next
+  number_wrote out next e q = let v = get_or numbers i 0 in rw (take_more numbers i 0 h) (wrote_on w (v ∷ []) out next (wrote_one mid m v out next e q))
 
 -- `put_wires` before its first turn, and in a turn
 pub wires_none : (values counts old : List ℕ) (at : ℕ) → Wrote old at (each (wire_numbers values counts) 0) old at
@@ -87,15 +71,7 @@ wires_none values counts old at = rw (each_none (wire_numbers values counts)) (w
 
 module _ (values counts : List ℕ) (k : ℕ) {old : List ℕ} {at : ℕ} {mid : List ℕ} {m : ℕ} (w : Wrote old at (each (wire_numbers values counts) k) mid m) where
   pub wire_room : (n : ℕ) → k < n → at + taken (each (wire_numbers values counts) n) ≤ length old → m + taken (wire_numbers values counts k) ≤ length mid
-  wire_room n l r =
-      omega (
-        arith,
-        w.place,
-        wrote_length w,
-        ap taken (wires_next values counts k),
-        taken_append (each (wire_numbers values counts) k) (wire_numbers values counts k),
-        wires-within values counts (k + 1) n (omega arith),
-      )
+  wire_room n l r = omega (arith, w.place, wrote_length w, wires_taken_next values counts k, wires-within values counts (k + 1) n (omega arith))
 
   pub wire_wrote : (out : List ℕ) (next : ℕ) → Wrote mid m (wire_numbers values counts k) out next → Wrote old at (each (wire_numbers values counts) (k + 1)) out next
   wire_wrote out next u = rw (wires_next values counts k) (wrote_on w (wire_numbers values counts k) out next u)

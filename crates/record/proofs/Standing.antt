@@ -1,14 +1,14 @@
 -- A record that is accepted stands in the bytes, with room for it; and what reading answers and leaves.
 -- Assumes nothing.
-use Prim.Native.Nat.{ℕ, ◌*◌, ◌≤◌}
-use mathlib.Core.Path.{◌≡◌, sym, ap, subst}
+use Prim.Native.Nat.{ℕ}
+use mathlib.Core.Path.{◌≡◌, sym, ap}
 use mathlib.Core.List.{List}
 use native.Mathlib.Omega.{arith}
 use lib.ListN.{length}
 use Rattle.refusal.specs.Told.{Told, accepted, refused}
 use Rattle.trace.specs.Outcome.{Lent}
 use Rattle.record.specs.Reading.{wires_in, wires_at, fields_answer, header_in, read_from_answer, buffers_read, read_buffers}
-use Rattle.record.specs.Inside.{Wires, Found}
+use Rattle.record.specs.Inside.{Found}
 use Rattle.record.proofs.Ways.{goes_on, stops}
 use Rattle.record.proofs.WireList.{found_accepted}
 use Rattle.record.proofs.FieldsFound.{fields_of}
@@ -25,15 +25,6 @@ stands s values counts nodes vs e =
       room-nodes = a.room-nodes;
       few = omega (arith, a.few, a.of_nodes);
     }
-
--- what is known of its wires, once their number and place are read
-pub wires_there : (s : List ℕ) (values counts nodes n at : ℕ) → Found s values counts nodes → n ≡ wires_in s → at ≡ wires_at s
-    → Wires n s at × (2 * n ≤ values) × (n ≤ counts)
-wires_there s values counts nodes n at f e g = (
-  subst (λ (j : ℕ). Wires j s at) (sym e) (subst (λ (j : ℕ). Wires (wires_in s) s j) (sym g) f.wires_stand),
-  subst (λ (j : ℕ). 2 * j ≤ values) (sym e) f.room-values,
-  subst (λ (j : ℕ). j ≤ counts) (sym e) f.room-counts,
-)
 
 module _ (s : List ℕ) (b : Lent) where
   abbrev looked : Told

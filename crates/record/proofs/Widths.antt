@@ -3,14 +3,16 @@
 use mathlib.Core.Path.{◌≡◌, refl, sym, ap, ◌∙◌}
 use mathlib.Core.List.{List, [], ◌∷◌, ◌++◌, append_assoc, append-nil}
 use mathlib.Core.Logic.{⊎_elim}
-use Prim.Native.Nat.{ℕ, zero, suc, ◌+◌, ◌-◌, ◌*◌, ◌≤◌, ◌<◌}
+use Prim.Native.Nat.{ℕ, zero, suc, ◌+◌, ◌*◌, ◌≤◌, ◌<◌}
 use native.Mathlib.Numerals.{add-one}
 use native.Mathlib.Omega.{arith}
-use lib.ListN.{length, get_or, take, drop, length-append, length-drop}
-use lib.Seq.{take-suc, take-add, get_or-drop}
+use lib.ListN.{length, get_or, take, drop, length-append, take-append-drop}
+use Rattle.std.specs.List.{sum_by}
+use Rattle.std.proofs.lemmas.List.{take_more}
+use Rattle.std.proofs.lemmas.List.Sums.{sum_by-cons}
 use Rattle.field.specs.Lists.{each}
 use Rattle.field.proofs.Cases.{below?}
-use Rattle.field.proofs.Each.{each_none, each_more}
+use Rattle.field.proofs.Each.{each_none, each_more, each-length}
 use Rattle.numbers.specs.Form.{bytes_of, width_of}
 use Rattle.numbers.proofs.Groups.{width_counts, width_most}
 use Rattle.record.specs.Bytes.{bytes_of_all, wire_numbers}
@@ -41,35 +43,27 @@ bytes-append (v ∷ vs) ws = ap (λ (l : List ℕ). bytes_of v ++ l) (bytes-appe
 pub taken_more : (v : ℕ) (vs : List ℕ) → taken (v ∷ vs) ≡ width_of v + taken vs
 taken_more v vs = ap length (bytes_more v vs) ∙ length-append (bytes_of v) (bytes_of_all vs) ∙ ap (λ (n : ℕ). n + taken vs) (width_counts v)
 
--- what a width comes to at most
-pub narrow : (r v : ℕ) → r ≡ width_of v → r ≤ 10
-narrow r v e = omega (arith, e, width_most v)
-
 pub taken_append : (vs ws : List ℕ) → taken (vs ++ ws) ≡ taken vs + taken ws
 taken_append vs ws = ap length (bytes-append vs ws) ∙ length-append (bytes_of_all vs) (bytes_of_all ws)
 
--- numbers from a place of cells on
-module _ (cells : List ℕ) (from : ℕ) where
-  pub cells_next : (i : ℕ) → from + i < length cells → take (i + 1) (drop from cells) ≡ take i (drop from cells) ++ (get_or cells (from + i) 0 ∷ [])
-  cells_next i h =
-      ap (λ (k : ℕ). take k (drop from cells)) (add-one i)
-      ∙ take-suc (drop from cells) i 0 (omega (arith, length-drop from cells))
-      ∙ ap (λ (v : ℕ). take i (drop from cells) ++ (v ∷ [])) (get_or-drop from cells i 0)
+-- the widths of numbers add up to their bytes, and are at most ten each
+pub widths_taken : (vs : List ℕ) → sum_by width_of vs ≡ taken vs
+widths_taken [] = sym taken_none
+widths_taken (v ∷ vs) = omega (arith, sum_by-cons width_of v vs, widths_taken vs, taken_more v vs)
 
-  pub cells_taken : (i : ℕ) → from + i < length cells → taken (take (i + 1) (drop from cells)) ≡ taken (take i (drop from cells)) + width_of (get_or cells (from + i) 0)
-  cells_taken i h =
-      let v : ℕ = get_or cells (from + i) 0 in
-      omega (arith, ap taken (cells_next i h), taken_append (take i (drop from cells)) (v ∷ []), taken_more v [], taken_none)
+pub taken_most : (vs : List ℕ) → taken vs ≤ 10 * length vs
+taken_most [] = omega (arith, taken_none)
+taken_most (v ∷ vs) = omega (arith, taken_more v vs, width_most v, taken_most vs)
 
-  pub cells-within : (i n : ℕ) → i ≤ n → taken (take i (drop from cells)) ≤ taken (take n (drop from cells))
-  cells-within i n h =
-      let e : n ≡ i + (n - i) = omega arith in
-      omega (
-        arith,
-        ap (λ (k : ℕ). taken (take k (drop from cells))) e,
-        ap taken (take-add i (n - i) (drop from cells)),
-        taken_append (take i (drop from cells)) (take (n - i) (drop i (drop from cells))),
-      )
+-- the first i of a list of numbers, and one more
+module _ (numbers : List ℕ) where
+  pub taken_next : (i : ℕ) → i < length numbers → taken (take (i + 1) numbers) ≡ taken (take i numbers) + width_of (get_or numbers i 0)
+  taken_next i h =
+      let v : ℕ = get_or numbers i 0 in
+      omega (arith, ap taken (take_more numbers i 0 h), taken_append (take i numbers) (v ∷ []), taken_more v [], taken_none)
+
+  pub taken_within : (i : ℕ) → taken (take i numbers) ≤ taken numbers
+  taken_within i = omega (arith, ap taken (take-append-drop i numbers), taken_append (take i numbers) (drop i numbers))
 
 -- wires, each by its three numbers
 module _ (values counts : List ℕ) where
@@ -82,26 +76,17 @@ module _ (values counts : List ℕ) where
   pub wires_next : (k : ℕ) → each (wire_numbers values counts) (k + 1) ≡ each (wire_numbers values counts) k ++ wire_numbers values counts k
   wires_next k = ap (each (wire_numbers values counts)) (add-one k) ∙ each_more (wire_numbers values counts) k
 
-  pub wires_taken_lem : (k : ℕ) → wires_taken (k + 1) ≡ wires_taken k + (width_of (get_or values (2 * k) 0) + (width_of (get_or values (2 * k + 1) 0) + width_of (get_or counts k 0)))
-  wires_taken_lem k =
-      let a : ℕ = get_or values (2 * k) 0 in
-      let b : ℕ = get_or values (2 * k + 1) 0 in
-      let m : ℕ = get_or counts k 0 in
-      omega (
-        arith,
-        ap taken (wires_next k),
-        taken_append (each (wire_numbers values counts) k) (wire_numbers values counts k),
-        taken_more a (b ∷ m ∷ []),
-        taken_more b (m ∷ []),
-        taken_more m [],
-        taken_none,
-      )
+  pub wires_taken_next : (k : ℕ) → wires_taken (k + 1) ≡ wires_taken k + taken (wire_numbers values counts k)
+  wires_taken_next k = ap taken (wires_next k) ∙ taken_append (each (wire_numbers values counts) k) (wire_numbers values counts k)
+
+  pub wires_most : (k : ℕ) → wires_taken k ≤ 30 * k
+  wires_most k = let vs = each (wire_numbers values counts) k in omega (arith, taken_most vs, each-length (wire_numbers values counts) 3 (λ j. refl) k)
 
   pub wires-within : (k n : ℕ) → k ≤ n → wires_taken k ≤ wires_taken n
   wires-within zero zero h = omega arith
   wires-within (suc k) zero h = absurd (omega arith)
   wires-within k (suc n) h =
       ⊎_elim
-      (λ (l : k < suc n). let i = wires-within k n (omega arith) in omega (arith, wires_taken_lem n, ap wires_taken (add-one n)))
+      (λ (l : k < suc n). let i = wires-within k n (omega arith) in omega (arith, wires_taken_next n, ap wires_taken (add-one n)))
       (λ (l : suc n ≤ k). let e : k ≡ suc n = omega arith in omega (arith, ap wires_taken e))
       (below? k (suc n))

@@ -59,17 +59,9 @@ wires-used vs cs n =
 
 -- values and counts from bytes
 
-pub values_none : (s : List ℕ) (at : ℕ) → values_from 0 s at ≡ []
-unfolding values_from
-values_none s at = refl
-
 pub values_more : (n : ℕ) (s : List ℕ) (at : ℕ) → values_from (suc n) s at ≡ number_at s at ∷ number_at s (next_at s at) ∷ values_from n s (after 3 s at)
 unfolding values_from numbers_from
 values_more n s at = refl
-
-pub counts_none : (s : List ℕ) (at : ℕ) → counts_from 0 s at ≡ []
-unfolding counts_from
-counts_none s at = refl
 
 pub counts_more : (n : ℕ) (s : List ℕ) (at : ℕ) → counts_from (suc n) s at ≡ number_at s (after 2 s at) ∷ counts_from n s (after 3 s at)
 unfolding counts_from
@@ -202,10 +194,3 @@ found_accepted n s at f =
 
 pub wires_accepted : (n : ℕ) (s : List ℕ) (at : ℕ) (vs : List ℕ) → wires_answer n s at ≡ accepted vs → Wires n s at
 wires_accepted n s at vs e = found_accepted n s at (wires_of_lem n s at vs e)
-
--- of wires that stand, the first one's count is a u32, and those behind it stand
-pub count_fits : (n : ℕ) (s : List ℕ) (at : ℕ) → Wires (suc n) s at → number_at s (after 2 s at) < u32
-count_fits n s at e = (subst (AllBelow u32) (counts_more n s at) (wires_of_lem (suc n) s at _ e).counts).0
-
-pub wires-behind : (n : ℕ) (s : List ℕ) (at : ℕ) → Wires (suc n) s at → Wires n s (after 3 s at)
-wires-behind n s at e = wires_accepted n s (after 3 s at) _ (passed (wire_answer s at) (wires_answer n s (after 3 s at)) _ (sym (wires_more s n at) ∙ e)).then

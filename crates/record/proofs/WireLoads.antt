@@ -1,97 +1,64 @@
--- Loading the values and counts of n wires: what is left to store, from here, is the whole.
+-- Loading the values and counts of wires: what is there after k of them.
 -- Assumes nothing.
-use Prim.Native.Nat.{ℕ, suc, ◌+◌, ◌-◌, ◌*◌, ◌≤◌, ◌<◌}
-use mathlib.Core.Path.{◌≡◌, refl, sym, ap, ap₂, ◌∙◌, subst}
-use mathlib.Core.List.{List, ◌++◌}
-use native.Mathlib.Nat.{sub-zero}
-use native.Mathlib.Omega.{arith}
-use lib.ListN.{length, set, length-set}
-use lib.Seq.{sets, length-sets}
+use Rattle.std.proofs.Common.{◌≡◌, ℕ, zero, suc, ◌+◌, ◌*◌, ◌<◌, ◌≤◌, List, [], ◌∷◌, ◌++◌, length, get_or, take, set, refl, sym, ap, ap₂, ◌∙◌, subst, add-one, mul-suc, arith}
+use Rattle.std.proofs.lemmas.List.{take_more_set}
+use Rattle.std.proofs.lemmas.Slice.{take-put_mid}
+use borrow.Rule.Slice.PartMut.{put_mid}
 use Rattle.record.specs.Numbers.{number_at, next_at, after, numbers_from}
 use Rattle.record.specs.Reading.{u32, values_from, counts_from}
 use Rattle.record.specs.Inside.{Wires}
-use Rattle.record.proofs.Places.{after_none, after_last, from_two, length_from}
-use Rattle.record.proofs.WireList.{values_none, values_more, counts_none, counts_more, after_wire, count_fits, wires-behind}
-use Rattle.trace.proofs.Stores.{sets_append}
+use Rattle.record.proofs.Places.{after_next, after_add, length_from}
+use Rattle.record.proofs.Bounds.{below_at}
+use Rattle.record.proofs.WireList.{after_wire, wires_of_lem, counts-length}
 
-pub record WiresLoading (s : List ℕ) (at n : ℕ) (old-values old-counts values counts : List ℕ) (next k : ℕ) : Type 0 where
-  pub same_values : length values ≡ length old-values
-  pub same_counts : length counts ≡ length old-counts
-  pub stand : Wires (n - k) s next
-  pub place : after (3 * (n - k)) s next ≡ after (3 * n) s at
-  pub stored-values : sets values (2 * k) (values_from (n - k) s next) ≡ sets old-values 0 (values_from n s at)
-  pub stored-counts : sets counts k (counts_from (n - k) s next) ≡ sets old-counts 0 (counts_from n s at)
+-- the numbers of one wire more
+values_last : (k : ℕ) (s : List ℕ) (at : ℕ) → values_from (suc k) s at ≡ values_from k s at ++ numbers_from 2 s (after (3 * k) s at)
+unfolding values_from numbers_from after
+values_last zero s at = refl
+values_last (suc k) s at =
+    ap (λ (l : List ℕ). number_at s at ∷ number_at s (next_at s at) ∷ l) (values_last k s (after 3 s at) ∙ ap (λ (j : ℕ). values_from k s (after 3 s at) ++ numbers_from 2 s j) (sym (after_wire k s at)))
 
-module _ (s : List ℕ) (at n : ℕ) (old-values old-counts : List ℕ) where
-  pub wires_start : Wires n s at → WiresLoading s at n old-values old-counts old-values old-counts at 0
-  wires_start w =
-      record {
-        same_values = refl;
-        same_counts = refl;
-        stand = subst (λ (k : ℕ). Wires k s at) (sym (sub-zero n)) w;
-        place = ap (λ (k : ℕ). after (3 * k) s at) (sub-zero n);
-        stored-values = ap (λ (k : ℕ). sets old-values 0 (values_from k s at)) (sub-zero n);
-        stored-counts = ap (λ (k : ℕ). sets old-counts 0 (counts_from k s at)) (sub-zero n);
-      }
+counts_last : (k : ℕ) (s : List ℕ) (at : ℕ) → counts_from (suc k) s at ≡ counts_from k s at ++ (number_at s (after 2 s (after (3 * k) s at)) ∷ [])
+unfolding counts_from after
+counts_last zero s at = refl
+counts_last (suc k) s at =
+    ap (λ (l : List ℕ). number_at s (after 2 s at) ∷ l) (counts_last k s (after 3 s at) ∙ ap (λ (j : ℕ). counts_from k s (after 3 s at) ++ (number_at s (after 2 s j) ∷ [])) (sym (after_wire k s at)))
 
-  module _ {values counts : List ℕ} {next k : ℕ} (l : WiresLoading s at n old-values old-counts values counts next k) where
-    left : k < n → Wires (suc (n - (k + 1))) s next
-    left h = let m : n - k ≡ suc (n - (k + 1)) = omega arith in subst (λ (j : ℕ). Wires j s next) m l.stand
+-- wire k's count is in its range
+count_at : (n k : ℕ) (s : List ℕ) (at : ℕ) → k < n → get_or (counts_from n s at) k 0 ≡ number_at s (after 2 s (after (3 * k) s at))
+unfolding counts_from after
+count_at zero k s at h = absurd (omega arith)
+count_at (suc n) zero s at h = refl
+count_at (suc n) (suc k) s at h = count_at n k s (after 3 s at) (omega arith) ∙ ap (λ (j : ℕ). number_at s (after 2 s j)) (sym (after_wire k s at))
 
-    pub count_is_u32 : (count_at v : ℕ) → count_at ≡ after 2 s next → v ≡ number_at s count_at → k < n → v < u32
-    count_is_u32 count_at v e f h =
-        let q : v ≡ number_at s (after 2 s next) = f ∙ ap (number_at s) e in
-        omega (arith, q, count_fits (n - (k + 1)) s next (left h))
+pub count_is_u32 : (s : List ℕ) (at n k : ℕ) → Wires n s at → k < n → number_at s (after 2 s (after (3 * k) s at)) < u32
+count_is_u32 s at n k w h =
+    subst (λ (v : ℕ). v < u32) (count_at n k s at h) (below_at u32 (counts_from n s at) (wires_of_lem n s at _ w).counts k (omega (arith, counts-length n s at)))
 
-    module _ (count_at v place : ℕ) (e : count_at ≡ after 2 s next) (f : v ≡ number_at s count_at) (g : place ≡ next_at s count_at) (h : k < n) where
-      third : place ≡ after 3 s next
-      third = g ∙ ap (next_at s) e ∙ sym (after_last 2 s next)
+pub record WiresLoaded (s : List ℕ) (at : ℕ) (values counts : List ℕ) (next k : ℕ) : Type 0 where
+  pub place : next ≡ after (3 * k) s at
+  pub values_are : take (2 * k) values ≡ values_from k s at
+  pub counts_are : take k counts ≡ counts_from k s at
 
-      kept-place : after (3 * (n - (k + 1))) s place ≡ after (3 * n) s at
-      kept-place =
-          let m : n - k ≡ suc (n - (k + 1)) = omega arith in
-          ap (after (3 * (n - (k + 1))) s) third
-          ∙ sym (after_wire (n - (k + 1)) s next)
-          ∙ ap (λ (j : ℕ). after (3 * j) s next) (sym m)
-          ∙ l.place
+pub loaded_none : (s : List ℕ) (at : ℕ) (values counts : List ℕ) → WiresLoaded s at values counts at 0
+unfolding values_from counts_from after
+loaded_none s at values counts = record { place = refl; values_are = refl; counts_are = refl }
 
-      kept_values : sets (sets values (2 * k) (numbers_from 2 s next)) (2 * (k + 1)) (values_from (n - (k + 1)) s place) ≡ sets old-values 0 (values_from n s at)
-      kept_values =
-          let m : n - k ≡ suc (n - (k + 1)) = omega arith in
-          let j : 2 * (k + 1) ≡ 2 * k + length (numbers_from 2 s next) = omega (arith, length_from 2 s next) in
-          ap₂ (λ (x y : ℕ). sets (sets values (2 * k) (numbers_from 2 s next)) x (values_from (n - (k + 1)) s y)) j third
-          ∙ sets_append (numbers_from 2 s next) (values_from (n - (k + 1)) s (after 3 s next)) values (2 * k)
-          ∙ ap (λ (xs : List ℕ). sets values (2 * k) (xs ++ values_from (n - (k + 1)) s (after 3 s next))) (from_two s next)
-          ∙ ap (sets values (2 * k)) (sym (values_more (n - (k + 1)) s next) ∙ ap (λ (x : ℕ). values_from x s next) (sym m))
-          ∙ l.stored-values
-
-      kept_counts : sets (set counts k v) (k + 1) (counts_from (n - (k + 1)) s place) ≡ sets old-counts 0 (counts_from n s at)
-      kept_counts =
-          let m : n - k ≡ suc (n - (k + 1)) = omega arith in
-          let j : k + 1 ≡ suc k = omega arith in
-          ap₂ (λ (x y : ℕ). sets (set counts k v) x (counts_from (n - (k + 1)) s y)) j third
-          ∙ ap (λ (x : ℕ). sets (set counts k x) (suc k) (counts_from (n - (k + 1)) s (after 3 s next))) (f ∙ ap (number_at s) e)
-          ∙ ap (sets counts k) (sym (counts_more (n - (k + 1)) s next) ∙ ap (λ (x : ℕ). counts_from x s next) (sym m))
-          ∙ l.stored-counts
-
-      pub wires_next : (values' : List ℕ) → values' ≡ sets values (2 * k) (numbers_from 2 s next)
-          → WiresLoading s at n old-values old-counts values' (set counts k v) place (k + 1)
-      wires_next values' q =
-          record {
-            same_values = ap (λ (x : List ℕ). length x) q ∙ length-sets values (2 * k) (numbers_from 2 s next) ∙ l.same_values;
-            same_counts = length-set counts k v ∙ l.same_counts;
-            stand = subst (λ (j : ℕ). Wires (n - (k + 1)) s j) (sym third) (wires-behind (n - (k + 1)) s next (left h));
-            place = kept-place;
-            stored-values = ap (λ (x : List ℕ). sets x (2 * (k + 1)) (values_from (n - (k + 1)) s place)) q ∙ kept_values;
-            stored-counts = kept_counts;
-          }
-
-    pub loaded_wires : n ≤ k
-        → (next ≡ after (3 * n) s at) × (values ≡ sets old-values 0 (values_from n s at)) × (counts ≡ sets old-counts 0 (counts_from n s at))
-    loaded_wires h =
-        let z : n - k ≡ 0 = omega arith in
-        let y : 3 * (n - k) ≡ 0 = omega arith in (
-          sym (after_none s next) ∙ ap (λ (j : ℕ). after j s next) (sym y) ∙ l.place,
-          ap (sets values (2 * k)) (sym (values_none s next) ∙ ap (λ (j : ℕ). values_from j s next) (sym z)) ∙ l.stored-values,
-          ap (sets counts k) (sym (counts_none s next) ∙ ap (λ (j : ℕ). counts_from j s next) (sym z)) ∙ l.stored-counts,
-        )
+-- one more: len cells are written over m of the values, and then a count
+pub loaded_next : {s : List ℕ} {at : ℕ} {values counts : List ℕ} {next k : ℕ} → WiresLoaded s at values counts next k
+    → (len m : ℕ) (cells : List ℕ) (count_at count place : ℕ) → len ≡ 2 → count_at ≡ after len s next → cells ≡ numbers_from len s next → count ≡ number_at s count_at → place ≡ next_at s count_at
+    → 2 * k + 2 ≤ length values → k < length counts → WiresLoaded s at (put_mid (2 * k) m values cells) (set counts k count) place (k + 1)
+loaded_next {s} {at} {values} {counts} {next} {k} w len m cells count_at count place two e f g h room_values room_counts =
+    let q : count_at ≡ after 2 s (after (3 * k) s at) = e ∙ ap₂ (λ (i j : ℕ). after i s j) two w.place in
+    let x : cells ≡ numbers_from 2 s (after (3 * k) s at) = f ∙ ap₂ (λ (i j : ℕ). numbers_from i s j) two w.place in
+    record {
+      place = cc (after_next 2 s (after (3 * k) s at), after_add (3 * k) 3 s at, mul-suc 3 k, add-one k);
+      values_are =
+          take-put_mid (2 * k) m values cells (2 * (k + 1)) (omega (arith, ap length x, length_from 2 s (after (3 * k) s at))) (omega arith)
+          ∙ ap₂ (λ (xs ys : List ℕ). xs ++ ys) w.values_are x
+          ∙ sym (rw (add-one k) (values_last k s at));
+      counts_are =
+          take_more_set counts k count room_counts
+          ∙ ap₂ (λ (xs : List ℕ) (v : ℕ). xs ++ (v ∷ [])) w.counts_are (g ∙ ap (number_at s) q)
+          ∙ sym (rw (add-one k) (counts_last k s at));
+    }

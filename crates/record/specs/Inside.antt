@@ -1,12 +1,12 @@
 -- What the private functions promise each other. No public contract cites this file.
 -- Assumes nothing.
-use Rattle.std.specs.Prelude.{◌≡◌, ℕ, ◌+◌, ◌*◌, ◌≤◌, ◌<◌, List, [], ◌∷◌, ◌++◌, length}
+use Rattle.std.specs.Prelude.{◌≡◌, ℕ, ◌+◌, ◌*◌, ◌≤◌, ◌<◌, List, [], ◌∷◌, length}
 use Rattle.refusal.specs.Told.{accepted}
 use Rattle.trace.specs.declared.RecordHeader.{RecordHeader}
 use Rattle.trace.specs.Outcome.{Lent}
 use Rattle.trace.specs.Counts.{wires}
 use Rattle.trace.specs.Record.{most_record_wires, record_wires, record_cells}
-use Rattle.record.specs.Numbers.{number_at, next_at, after, numbers_from}
+use Rattle.record.specs.Numbers.{after}
 use Rattle.record.specs.Reading.{u32, wires_answer, ctx_in, clk_in, wires_in, wires_at, reads_in, evals_in}
 
 -- a record whose cells and counts are there
@@ -29,16 +29,3 @@ pub record Found (s : List ℕ) (values counts nodes : ℕ) : Type 0 where
   pub wires_stand : Wires (wires_in s) s (wires_at s)
   pub room-nodes : 7 * reads_in s + 11 * evals_in s ≤ nodes
   pub few : wires (reads_in s) (evals_in s) ≤ most_record_wires
-
--- behind a list of READ nodes, whose length starts at a place, starts the length of the EVAL nodes
-abbrev pub eval_list_from : List ℕ → ℕ → ℕ
-eval_list_from s at = after (7 * number_at s at) s (next_at s at)
-
-abbrev pub node_cells_from : List ℕ → ℕ → ℕ
-node_cells_from s at = 7 * number_at s at + 11 * number_at s (eval_list_from s at)
-
--- the node cells of both lists
-abbrev pub nodes_from : List ℕ → ℕ → List ℕ
-nodes_from s at =
-    numbers_from (7 * number_at s at) s (next_at s at)
-    ++ numbers_from (11 * number_at s (eval_list_from s at)) s (next_at s (eval_list_from s at))

@@ -18,19 +18,18 @@ fn find_numbers(source: &[u8], at: usize, n: usize, bound: u64) -> ReadAnswer
     ensures { read_told result ≡ numbers_answer bound n source.now at }
 {
     let mut next = at;
-    let mut i: usize = 0;
-    while i < n {
+    for _ in 0..n {
         let found = read_below(source, next, bound);
         let ReadAnswer::Number(_, after) = found else {
             return found;
         };
         next = after;
-        i += 1;
     }
     ReadAnswer::Number(0, next)
 }
 
 // ctx, clk, id_next, and the wire list's length.
+#[tactic(auto, using(crate::proofs::Ways::goes_on, crate::proofs::Ways::stops), unfolding(crate::specs::Reading::head_answer))]
 fn find_head(source: &[u8]) -> ReadAnswer
     ensures { read_told result ≡ head_answer source.now }
 {
@@ -50,8 +49,7 @@ fn find_wires(source: &[u8], at: usize, n: usize) -> ReadAnswer
     ensures { read_told result ≡ wires_answer n source.now at }
 {
     let mut next = at;
-    let mut i: usize = 0;
-    while i < n {
+    for _ in 0..n {
         let value = find_numbers(source, next, 2, P);
         let ReadAnswer::Number(_, count_at) = value else {
             return value;
@@ -61,11 +59,11 @@ fn find_wires(source: &[u8], at: usize, n: usize) -> ReadAnswer
             return count;
         };
         next = after;
-        i += 1;
     }
     ReadAnswer::Number(0, next)
 }
 
+#[tactic(auto, unfolding(crate::specs::Reading::wire_list_answer))]
 fn find_wire_list(source: &[u8], at: usize, n: u64, values: usize, counts: usize) -> ReadAnswer
     ensures { read_told result ≡ wire_list_answer n source.now at values counts }
 {
@@ -79,6 +77,7 @@ fn find_wire_list(source: &[u8], at: usize, n: u64, values: usize, counts: usize
 }
 
 // "After the declared count 18, 19, 20."
+#[tactic(auto, using(crate::proofs::Ways::goes_on, crate::proofs::Ways::stops), unfolding(crate::specs::Reading::declared_answer))]
 fn find_declared(source: &[u8], at: usize, n: u64) -> ReadAnswer
     ensures { read_told result ≡ declared_answer n source.now at }
 {
@@ -99,6 +98,7 @@ fn find_declared(source: &[u8], at: usize, n: u64) -> ReadAnswer
 }
 
 // A list of nodes of `width` cells each, where `used` of the node cells are taken before it.
+#[tactic(auto, using(crate::proofs::Ways::goes_on, crate::proofs::Ways::stops), unfolding(crate::specs::Reading::nodes_answer))]
 fn find_nodes(source: &[u8], at: usize, used: usize, width: usize, nodes: usize) -> ReadAnswer
     requires { (used ≤ nodes) × (0 < width) }
     ensures { read_told result ≡ nodes_answer used width nodes source.now at }
@@ -118,6 +118,7 @@ fn find_nodes(source: &[u8], at: usize, used: usize, width: usize, nodes: usize)
 }
 
 // "At the end 21, 19, 22, 23."
+#[tactic(auto, unfolding(crate::specs::Reading::end_answer))]
 fn find_end(reads: u64, evals: u64, declared: u64, end: usize, len: usize) -> ReadAnswer
     ensures { read_told result ≡ end_answer reads evals declared end len }
 {
@@ -140,6 +141,7 @@ fn find_end(reads: u64, evals: u64, declared: u64, end: usize, len: usize) -> Re
     ReadAnswer::Number(declared, end)
 }
 
+#[tactic(auto, using(crate::proofs::Ways::goes_on, crate::proofs::Ways::stops), unfolding(crate::specs::Reading::fields_answer))]
 pub fn find(source: &[u8], values: usize, counts: usize, nodes: usize) -> ReadAnswer
     ensures { read_told result ≡ fields_answer source.now values counts nodes }
 {

@@ -3,6 +3,7 @@
 
 mod find;
 mod load;
+mod parts;
 mod put;
 mod width;
 

@@ -5,92 +5,63 @@ ghost use Rattle.trace.specs.Outcome.{lent};
 ghost use Rattle.trace.specs.Output.{header_numbers};
 ghost use Rattle.record.specs.Numbers.{number_at, next_at, after, numbers_from};
 ghost use Rattle.record.specs.Reading.{values_from, counts_from, header_in, record_in};
-ghost use Rattle.record.specs.Inside.{Wires, eval_list_from, node_cells_from, nodes_from, Found};
+ghost use Rattle.record.specs.Inside.{Wires, Found};
 
 use numbers::{ReadAnswer, read};
 use trace::{EVAL_CELLS, READ_CELLS, RecordHeader};
 
 // A number and the place after it.
-#[derive(Clone, Copy)]
-pub struct Number {
-    pub value: u64,
-    pub next: usize,
-}
-
-// How many READ and EVAL nodes there are.
-#[derive(Clone, Copy)]
-pub struct Lengths {
-    pub reads: u64,
-    pub evals: u64,
-}
-
-fn number_at(source: &[u8], at: usize) -> Number
-    ensures value_value { result.value ≡ number_at source.now at }
-    ensures next_value { result.next ≡ next_at source.now at }
+fn number_at(source: &[u8], at: usize) -> (u64, usize)
+    ensures value { result.0 ≡ number_at source.now at }
+    ensures next { result.1 ≡ next_at source.now at }
 {
-    let found = read(source, at);
-    let ReadAnswer::Number(value, next) = found else {
-        return Number { value: 0, next: at };
-    };
-    Number {
-        value: value,
-        next: next,
+    match read(source, at) {
+        ReadAnswer::Number(value, next) => (value, next),
+        ReadAnswer::Refused(..) => (0, at),
     }
 }
 
-fn load_cells(source: &[u8], at: usize, n: usize, cells: &mut [u64], from: usize) -> usize
-    requires { from + n ≤ length cells.old }
-    ensures value { result ≡ after n source.now at }
-    ensures cells_after { cells.new ≡ sets cells.old from (numbers_from n source.now at) }
+// Each function from here on answers the place after what it loaded.
+fn load_cells(source: &[u8], at: usize, cells: &mut [u64]) -> usize
+    ensures value { result ≡ after (length cells.old) source.now at }
+    ensures cells_after { cells.new ≡ numbers_from (length cells.old) source.now at }
 {
     let mut next = at;
-    let mut i: usize = 0;
-    while i < n {
-        let number = number_at(source, next);
-        cells[from + i] = number.value;
-        next = number.next;
-        i += 1;
+    for cell in cells {
+        (*cell, next) = number_at(source, next);
     }
     next
 }
 
-fn load_wires(source: &[u8], at: usize, n: usize, values: &mut [u64], counts: &mut [u32]) -> usize
-    requires { Wires n source.now at × (2 * n ≤ length values.old) × (n ≤ length counts.old) }
-    ensures value { result ≡ after (3 * n) source.now at }
-    ensures values_after { values.new ≡ sets values.old 0 (values_from n source.now at) }
-    ensures counts_after { counts.new ≡ sets counts.old 0 (counts_from n source.now at) }
+fn load_wires(source: &[u8], at: usize, values: &mut [u64], counts: &mut [u32]) -> usize
+    requires { Wires (length counts.old) source.now at × (length values.old ≡ 2 * length counts.old) }
+    ensures value { result ≡ after (3 * length counts.old) source.now at }
+    ensures values_after { values.new ≡ values_from (length counts.old) source.now at }
+    ensures counts_after { counts.new ≡ counts_from (length counts.old) source.now at }
 {
     let mut next = at;
-    let mut k: usize = 0;
-    while k < n {
-        let count_at = load_cells(source, next, 2, values, 2 * k);
-        let count = number_at(source, count_at);
-        counts[k] = count.value as u32;
-        next = count.next;
-        k += 1;
+    for k in 0..counts.len() {
+        let count_at = load_cells(source, next, &mut values[2 * k..2 * k + 2]);
+        let (count, after) = number_at(source, count_at);
+        counts[k] = count as u32;
+        next = after;
     }
     next
 }
 
-// The READ nodes, then the EVAL nodes, each list behind its length.
-fn load_nodes(source: &[u8], at: usize, nodes: &mut [u64]) -> Lengths
-    requires { node_cells_from source.now at ≤ length nodes.old }
-    ensures reads_value { result.reads ≡ number_at source.now at }
-    ensures evals_value { result.evals ≡ number_at source.now (eval_list_from source.now at) }
-    ensures nodes_after { nodes.new ≡ sets nodes.old 0 (nodes_from source.now at) }
+// A list of nodes of `width` cells each, behind its length. It answers the length too.
+fn load_nodes(source: &[u8], at: usize, width: usize, nodes: &mut [u64]) -> (u64, usize)
+    requires { width * number_at source.now at ≤ length nodes.old }
+    ensures len { result.0 ≡ number_at source.now at }
+    ensures next { result.1 ≡ after (width * number_at source.now at) source.now (next_at source.now at) }
+    ensures nodes_after { nodes.new ≡ sets nodes.old 0 (numbers_from (width * number_at source.now at) source.now (next_at source.now at)) }
 {
-    let reads = number_at(source, at);
-    let read_cells = READ_CELLS * reads.value as usize;
-    let evals_at = load_cells(source, reads.next, read_cells, nodes, 0);
-    let evals = number_at(source, evals_at);
-    let eval_cells = EVAL_CELLS * evals.value as usize;
-    load_cells(source, evals.next, eval_cells, nodes, read_cells);
-    Lengths {
-        reads: reads.value,
-        evals: evals.value,
-    }
+    let (len, cells_at) = number_at(source, at);
+    let next = load_cells(source, cells_at, &mut nodes[..width * len as usize]);
+    (len, next)
 }
 
+#[tactic(auto, unfolding(crate::specs::Numbers::after, crate::specs::Numbers::numbers_from, crate::specs::Reading::ctx_in, crate::specs::Reading::clk_in, crate::specs::Reading::id_next_in, crate::specs::Reading::wires_in, crate::specs::Reading::wires_at, crate::specs::Reading::declared_at, crate::specs::Reading::read_list_at, crate::specs::Reading::reads_in, crate::specs::Reading::reads_at, crate::specs::Reading::eval_list_at, crate::specs::Reading::evals_in, crate::specs::Reading::evals_at))]
 pub fn load(
     source: &[u8],
     values: &mut [u64],
@@ -101,19 +72,23 @@ pub fn load(
     ensures result_value { header_numbers result ≡ header_in source.now }
     ensures nodes_after { lent values.new counts.new nodes.new ≡ record_in source.now (lent values.old counts.old nodes.old) }
 {
-    let ctx = number_at(source, 0);
-    let clk = number_at(source, ctx.next);
-    let id_next = number_at(source, clk.next);
-    let wires = number_at(source, id_next.next);
-    let num_wires = wires.value as usize;
-    let declared_at = load_wires(source, wires.next, num_wires, values, counts);
-    let declared = number_at(source, declared_at);
-    let lengths = load_nodes(source, declared.next, nodes);
+    let mut head = [0; 4];
+    let wires_at = load_cells(source, 0, &mut head);
+    let [ctx, clk, id_next, num_wires] = head;
+    let num_wires = num_wires as usize;
+    let used_values = &mut values[..2 * num_wires];
+    let used_counts = &mut counts[..num_wires];
+    let declared_at = load_wires(source, wires_at, used_values, used_counts);
+    let (_, read_list_at) = number_at(source, declared_at);
+    let (num_read, eval_list_at) = load_nodes(source, read_list_at, READ_CELLS, nodes);
+    let read_cells = READ_CELLS * num_read as usize;
+    let eval_nodes = &mut nodes[read_cells..];
+    let (num_eval, _) = load_nodes(source, eval_list_at, EVAL_CELLS, eval_nodes);
     RecordHeader {
-        ctx: ctx.value as u32,
-        clk: clk.value as u32,
-        num_read: lengths.reads as u32,
-        num_eval: lengths.evals as u32,
-        id_next: id_next.value,
+        ctx: ctx as u32,
+        clk: clk as u32,
+        num_read: num_read as u32,
+        num_eval: num_eval as u32,
+        id_next,
     }
 }

@@ -12,6 +12,10 @@ pub told_up : {T : Type 0} (values : T → List ℕ) (r : Result T Refusal) (e :
 told_up values (Ok v) e h = absurd h.1
 told_up values (Err d) e h = ap (λ (y : Refusal). refused (number_of y) (place_of y)) h.1
 
+pub err_up : {T E : Type 0} (r : Result T E) (e : E) → IsErr r × IsErrAnd r (λ y. y ≡ e) → r ≡ Err e
+err_up (Ok v) e h = absurd h.1
+err_up (Err d) e h = ap Err h.1
+
 pub stops : {T : Type 0} (values : T → List ℕ) (r : Result T Refusal) (e : Refusal) (x t : Told) → IsErr r × IsErrAnd r (λ y. y ≡ e) → refused (number_of e) (place_of e) ≡ x → told values r ≡ or_else x t
 stops values r e x t h is = told_up values r e h ∙ ap (λ (y : Told). or_else y t) is
 

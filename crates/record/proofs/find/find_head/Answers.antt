@@ -1,22 +1,21 @@
 -- `record::find::find_head` meets its contract.
 -- Assumes nothing.
-use mathlib.Core.Path.{ap, ◌∙◌}
-use Rattle.numbers.specs.Answer.{read_told}
-use Rattle.record.proofs.Ways.{heard}
-use Rattle.record.proofs.Heads.{head_off, id_next_off, head_is}
+use Rattle.std.proofs.Common.{arith}
+use Rattle.record.specs.Reading.{head_answer}
+use Rattle.record.proofs.Ways.{heard, goes_on, stops}
+use Rattle.record.proofs.Numbers.{place_after, place_behind}
 use Rattle.record.proofs.find.find_head.Goals as goal
 
-pub returns-in_default : goal.returns-in_default
-returns-in_default c =
-    ap read_told c.in_default.is
-    ∙ head_off _ _ _ (heard c.find_numbers-numbers.ensures c.in_default.is)
-
 pub returns-in_default-id_next : goal.returns-in_default-id_next
+unfolding head_answer
 returns-in_default-id_next c =
-    ap read_told c.in_default-id_next.is
-    ∙ id_next_off _ _ _ (heard c.find_numbers-numbers.ensures c.in-Number.is) _ _ (heard c.find_numbers-id_next.ensures c.in_default-id_next.is)
+    let at = place_after _ _ _ _ _ _ (heard c.find_numbers-numbers.ensures c.in-Number.is) in
+    grind (arith, goes_on, stops)
 
 pub returns : goal.returns
+unfolding head_answer
 returns c =
-    c.read.ensures
-    ∙ head_is _ _ _ (heard c.find_numbers-numbers.ensures c.in-Number.is) _ _ (heard c.find_numbers-id_next.ensures c.in-Number-id_next.is)
+    let e = heard c.find_numbers-numbers.ensures c.in-Number.is in
+    let at = place_after _ _ _ _ _ _ e in
+    let next = place_behind _ _ _ _ _ _ _ _ _ _ e (heard c.find_numbers-id_next.ensures c.in-Number-id_next.is) in
+    grind (arith, goes_on, stops)

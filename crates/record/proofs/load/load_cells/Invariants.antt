@@ -1,12 +1,9 @@
 -- `record::load::load_cells` meets its contract.
 -- Assumes nothing.
-use Prim.Native.Nat.{◌-◌}
-use Rattle.record.proofs.CellLoads.{Loading}
+use Rattle.std.proofs.Common.{◌≡◌, take}
+use Rattle.record.specs.Numbers.{after, numbers_from}
 use Rattle.record.proofs.load.load_cells.Given as goal
 
-abbrev pub invariant-loop-i : goal.invariant-loop-i
-invariant-loop-i l =
-    Loading l.source l.at l.n l.initial.cells l.from l.cells l.next l.i
-
-abbrev pub decreases-loop-i : goal.decreases-loop-i
-decreases-loop-i l = l.n - l.i
+abbrev pub invariant-loop-cell : goal.invariant-loop-cell
+invariant-loop-cell l =
+    (l.next ≡ after l.cell-index l.source l.at) × (take l.cell-index l.cell-items ≡ numbers_from l.cell-index l.source l.at)

@@ -1,24 +1,19 @@
 -- `record::load::load_wires` meets its contract.
 -- Assumes nothing.
-use native.Mathlib.Omega.{arith}
-use borrow.Author.Rules.{rules}
-use Rattle.record.proofs.WireLoads.{wires_start, count_is_u32, wires_next, loaded_wires}
+use Rattle.std.proofs.Common.{◌+◌, ◌*◌, ◌∙◌, arith}
+use Rattle.std.proofs.lemmas.List.Edits.{length-between}
+use Rattle.record.proofs.WireLoads.{count_is_u32, loaded_none, loaded_next}
 use Rattle.record.proofs.load.load_wires.Goals as goal
 
 pub loop-k-init : goal.loop-k-init
-loop-k-init c = wires_start _ _ _ _ _ c.requires.0
+loop-k-init c = loaded_none _ _ _ _
 
 pub overflow_cast-counts : goal.overflow_cast-counts
-overflow_cast-counts c = omega (arith, count_is_u32 _ _ _ _ _ c.loop-k.invariant _ _ c.load_cells-count_at.ensures.value c.number_at-count.ensures.value_value (search rules))
+overflow_cast-counts c = grind (arith, length-between, count_is_u32 c.args.source.now c.args.at _ c.loop-k.k c.requires.0)
 
 pub loop-k-preserved : goal.loop-k-preserved
-loop-k-preserved c = wires_next _ _ _ _ _ c.loop-k.invariant _ _ _ c.load_cells-count_at.ensures.value c.number_at-count.ensures.value_value c.number_at-count.ensures.next_value (search rules) _ c.load_cells-count_at.ensures.cells_after
-
-pub shape_of-values : goal.shape_of-values
-shape_of-values c = c.loop-k.invariant.same_values
-
-pub shape_of-counts : goal.shape_of-counts
-shape_of-counts c = c.loop-k.invariant.same_counts
-
-pub returns : goal.returns
-returns c = let e = loaded_wires _ _ _ _ _ c.loop-k.invariant (search rules) in record { value = e.0; values_after = e.1; counts_after = e.2 }
+loop-k-preserved c =
+    let l = c.loop-k in
+    let cells = c.load_cells-count_at.ensures in
+    let count = c.number_at-count.ensures in
+    loaded_next l.invariant _ _ _ _ _ _ (length-between l.values (2 * l.k) (2 * l.k + 2) (omega arith) ∙ omega arith) cells.value cells.cells_after count.value count.next (omega arith) (omega arith)

@@ -1,15 +1,13 @@
 -- `record::load::number_at` meets its contract.
 -- Assumes nothing.
-use Rattle.record.proofs.Ways.{heard}
-use Rattle.record.proofs.Places.{number_is, next_is, no_number, no_next}
+use Rattle.std.proofs.Common.{ap}
+use Rattle.record.specs.Numbers.{number_told, next_told, number_at, next_at}
 use Rattle.record.proofs.load.number_at.Goals as goal
 
-pub returns-in_default : goal.returns-in_default
-returns-in_default c =
-    let e = heard c.read-found.ensures c.in_default.is in
-    record { value_value = no_number _ _ _ _ e; next_value = no_next _ _ _ _ e }
+pub returns-in-Number : goal.returns-in-Number
+unfolding number_at next_at
+returns-in-Number c = record { value = ap number_told c.in-Number.ensures; next = ap (next_told c.args.at) c.in-Number.ensures }
 
-pub returns : goal.returns
-returns c =
-    let e = heard c.read-found.ensures c.in-Number.is in
-    record { value_value = number_is _ _ _ _ e; next_value = next_is _ _ _ _ e }
+pub returns-in-Refused : goal.returns-in-Refused
+unfolding number_at next_at
+returns-in-Refused c = record { value = ap number_told c.in-Refused.ensures; next = ap (next_told c.args.at) c.in-Refused.ensures }
