@@ -8,7 +8,8 @@ ghost use Rattle.std.specs.Prelude.{◌≡◌};
 ghost use Rattle.trace.specs.Outcome.{lent};
 ghost use Rattle.rows.specs.Fill.{fill_told, fill_answer, filled_rows, fill_state_answer, state_rows};
 
-use crate::sections::{fill_evals, fill_reads};
+use crate::cols::{eval_cols, read_cols};
+use crate::sections::fill_rows;
 use trace::{CircuitEvaluation, HeaderAnswer, RecordHeader, Tested};
 
 // The cells of a row.
@@ -42,17 +43,25 @@ pub fn fill(
         return FillAnswer::Refused(number, place);
     }
     let num_read = header.num_read as usize;
-    let num_rows = num_read + header.num_eval as usize;
+    let num_eval = header.num_eval as usize;
+    let num_rows = num_read + num_eval;
     // Offsets and sums are whole numbers: none of them is made before it is known to fit.
     let room = rows.len() / ACE_CHIPLET_NUM_COLS;
-    if room < num_rows {
+    if room < num_rows || room - num_rows < offset {
         return FillAnswer::Refused(SHORT_ROWS, 0);
     }
-    if room - num_rows < offset {
-        return FillAnswer::Refused(SHORT_ROWS, 0);
-    }
-    fill_reads(header, counts, nodes, offset, rows);
-    fill_evals(header, counts, nodes, offset + num_read, rows);
+    fill_rows(
+        rows,
+        offset,
+        num_read,
+        |i| read_cols(header, counts, nodes, i),
+    );
+    fill_rows(
+        rows,
+        offset + num_read,
+        num_eval,
+        |j| eval_cols(header, counts, nodes, j),
+    );
     FillAnswer::Filled
 }
 

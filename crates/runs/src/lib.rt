@@ -6,6 +6,7 @@ mod entries;
 ghost use Rattle.std.specs.Prelude.{◌≡◌};
 ghost use Rattle.runs.specs.Calls.{rows_told, add_told, total_answer, first_row_answer, add_answer, list_after};
 
+use crate::entries::total;
 use trace::counts::test_counts;
 use trace::{OUT_OF_TURN, Tested};
 
@@ -24,6 +25,7 @@ pub struct Entry {
     pub num_eval: u32,
 }
 
+// "The run list struct holds [Entry; 32] and a length, sorted by clock."
 #[derive(Clone, Copy)]
 pub struct Ace {
     pub entries: [Entry; 32],
@@ -59,7 +61,7 @@ impl Ace {
         if !self.is_sound() {
             return RowsAnswer::Refused(OUT_OF_TURN, 0);
         }
-        RowsAnswer::Rows(self.total_of(self.len as usize))
+        RowsAnswer::Rows(total(self.used()))
     }
 
     // "The first row of a clock, the sum of rows of smaller clocks; or 26."
@@ -69,48 +71,41 @@ impl Ace {
         if !self.is_sound() {
             return RowsAnswer::Refused(OUT_OF_TURN, 0);
         }
-        let at = self.place_of(clk);
-        if !self.is_at(at, clk) {
+        let Ok(at) = self.place_of(clk) else {
             return RowsAnswer::Refused(NO_SUCH_CLOCK, 0);
-        }
-        RowsAnswer::Rows(self.total_of(at))
+        };
+        RowsAnswer::Rows(total(&self.entries[..at]))
     }
 
-    // "Adding: then 1, 2, 3 as for opening, 25 (32 other clocks)." "Adding an equal clock replaces
-    // that entry, full or not."
+    // "A refusal leaves the list."
     pub fn add_circuit_evaluation(self, entry: Entry) -> AddOutcome
         ensures answer_value { add_told result.answer ≡ add_answer self entry }
         ensures list_value { result.list ≡ list_after self entry }
     {
+        let mut list = self;
+        let answer = list.add(entry);
+        AddOutcome { list, answer }
+    }
+
+    // "Adding: then 1, 2, 3 as for opening, 25 (32 other clocks)." "Adding an equal clock replaces
+    // that entry, full or not."
+    fn add(&mut self, entry: Entry) -> AddAnswer
+        ensures answer_value { add_told result ≡ add_answer self.old entry }
+        ensures list_value { self.new ≡ list_after self.old entry }
+    {
         if !self.is_sound() {
-            return AddOutcome {
-                list: self,
-                answer: AddAnswer::Refused(OUT_OF_TURN, 0),
-            };
+            return AddAnswer::Refused(OUT_OF_TURN, 0);
         }
-        let tested = test_counts(entry.num_read, entry.num_eval);
-        if let Tested::Refused(number, place) = tested {
-            return AddOutcome {
-                list: self,
-                answer: AddAnswer::Refused(number, place),
-            };
+        if let Tested::Refused(number, place) = test_counts(entry.num_read, entry.num_eval) {
+            return AddAnswer::Refused(number, place);
         }
-        let at = self.place_of(entry.clk);
-        if self.is_at(at, entry.clk) {
-            return AddOutcome {
-                list: self.replace(at, entry),
-                answer: AddAnswer::Added,
-            };
+        match self.place_of(entry.clk) {
+            Ok(at) => self.entries[at] = entry,
+            Err(_) if self.len as usize == MAX_EVAL_CIRCUIT_INVOCATIONS => {
+                return AddAnswer::Refused(LIST_FULL, 0);
+            }
+            Err(at) => self.insert_at(at, entry),
         }
-        if self.len as usize == MAX_EVAL_CIRCUIT_INVOCATIONS {
-            return AddOutcome {
-                list: self,
-                answer: AddAnswer::Refused(LIST_FULL, 0),
-            };
-        }
-        AddOutcome {
-            list: self.insert_at(at, entry),
-            answer: AddAnswer::Added,
-        }
+        AddAnswer::Added
     }
 }
