@@ -10,20 +10,11 @@ ghost use Rattle.rows.specs.Fill.{fill_told, fill_answer, filled_rows, fill_stat
 
 use crate::cols::{eval_cols, read_cols};
 use crate::sections::fill_rows;
-use trace::{CircuitEvaluation, HeaderAnswer, RecordHeader, Tested};
+use refusal::Refusal;
+use trace::{CircuitEvaluation, RecordHeader};
 
 // The cells of a row.
 pub const ACE_CHIPLET_NUM_COLS: usize = 16;
-
-// The refusal of a row buffer that is too short.
-pub const SHORT_ROWS: u32 = 14;
-
-// That the rows are written, or the refusal's number and place.
-#[derive(Clone, Copy)]
-pub enum FillAnswer {
-    Filled,
-    Refused(u32, u64),
-}
 
 // "21, 19, 6, 17 (a used value or node cell, or id_next, p or more), then fill 14". "A refusal
 // changes nothing."
@@ -34,21 +25,18 @@ pub fn fill(
     nodes: &[u64],
     offset: usize,
     rows: &mut [u64],
-) -> FillAnswer
+) -> Result<(), Refusal>
     ensures result_value { fill_told result ≡ fill_answer header (lent values.now counts.now nodes.now) offset rows.old }
     ensures rows_after { rows.new ≡ filled_rows header (lent values.now counts.now nodes.now) offset rows.old }
 {
-    let tested = header.test(values, counts, nodes);
-    if let Tested::Refused(number, place) = tested {
-        return FillAnswer::Refused(number, place);
-    }
+    header.test(values, counts, nodes)?;
     let num_read = header.num_read as usize;
     let num_eval = header.num_eval as usize;
     let num_rows = num_read + num_eval;
     // Offsets and sums are whole numbers: none of them is made before it is known to fit.
     let room = rows.len() / ACE_CHIPLET_NUM_COLS;
     if room < num_rows || room - num_rows < offset {
-        return FillAnswer::Refused(SHORT_ROWS, 0);
+        return Err(Refusal::ShortRows);
     }
     fill_rows(
         rows,
@@ -62,7 +50,7 @@ pub fn fill(
         num_eval,
         |j| eval_cols(header, counts, nodes, j),
     );
-    FillAnswer::Filled
+    Ok(())
 }
 
 // "Given a step state, 13 and 11 come before these."
@@ -73,13 +61,10 @@ pub fn fill_state(
     nodes: &[u64],
     offset: usize,
     rows: &mut [u64],
-) -> FillAnswer
+) -> Result<(), Refusal>
     ensures result_value { fill_told result ≡ fill_state_answer state (lent values.now counts.now nodes.now) offset rows.old }
     ensures rows_after { rows.new ≡ state_rows state (lent values.now counts.now nodes.now) offset rows.old }
 {
-    let finalized = state.finalized();
-    match finalized {
-        HeaderAnswer::Header(header) => fill(header, values, counts, nodes, offset, rows),
-        HeaderAnswer::Refused(number, place) => FillAnswer::Refused(number, place),
-    }
+    let header = state.finalized()?;
+    fill(header, values, counts, nodes, offset, rows)
 }

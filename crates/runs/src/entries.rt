@@ -5,7 +5,6 @@ ghost use Rattle.runs.specs.Calls.{most_runs, used, sound_list};
 ghost use Rattle.runs.specs.Inside.{place_told, opened_at};
 
 use crate::{Ace, Entry, MAX_EVAL_CIRCUIT_INVOCATIONS};
-use trace::Tested;
 use trace::counts::test_counts;
 
 impl Entry {
@@ -21,7 +20,7 @@ impl Entry {
     fn opens(&self) -> bool
         ensures { result ≡ opens self.now }
     {
-        matches!(test_counts(self.num_read, self.num_eval), Tested::Passed)
+        test_counts(self.num_read, self.num_eval).is_ok()
     }
 }
 
