@@ -1,8 +1,6 @@
 // Reads at most 10,301 bytes, and writes the evaluation of what they say.
 #![tactic(auto)]
 
-mod reads;
-
 use program::{MOST_INPUT, MOST_TEXT};
 use std::io;
 

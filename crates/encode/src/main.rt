@@ -2,8 +2,6 @@
 // them; or says on standard error which word is none, and writes no byte.
 #![tactic(auto)]
 
-mod reads;
-
 use std::io;
 use words::EncodeAnswer;
 
