@@ -12,7 +12,7 @@ ghost use Rattle.words.specs.Answer.{answer_from, encode_answer, encoded};
 ghost use Rattle.words.specs.Inside.{Fits};
 
 use crate::word::{is_parting, number_of};
-use numbers::{WriteAnswer, width, write};
+use numbers::{width, write};
 use std::error::Error;
 use std::fmt;
 
@@ -74,9 +74,6 @@ fn put_words(text: &[u8], out: &mut [u8])
     let mut at = 0;
     for (i, word) in words.enumerate() {
         let number = number_of(word, i + 1).unwrap();
-        let WriteAnswer::Next(next) = write(number, out, at) else {
-            unreachable!()
-        };
-        at = next;
+        at = write(number, out, at).unwrap();
     }
 }
