@@ -19,8 +19,8 @@ pub record Held (h : RecordHeader) (b : Lent) : Type 0 where
   pub held-nodes : record_cells h ≤ length b.nodes
 
 -- the place after numbers that were looked at, told as in an answer that has a number before the place
-abbrev pub place_told : Result ℕ Refusal → Told
-place_told = told (λ at. 0 ∷ at ∷ [])
+abbrev pub left_off_told : Result ℕ Refusal → Told
+left_off_told = told (λ at. 0 ∷ at ∷ [])
 
 -- n wires that stand in bytes from a place on
 abbrev pub Wires : ℕ → List ℕ → ℕ → Type 0

@@ -7,7 +7,7 @@ ghost use Rattle.numbers.specs.Answer.{read_told};
 ghost use Rattle.trace.specs.Record.{tested_told};
 ghost use Rattle.record.specs.Numbers.{numbers_answer};
 ghost use Rattle.record.specs.Reading.{head_answer, wires_answer, wire_list_answer, declared_answer, nodes_answer, end_answer, fields_answer};
-ghost use Rattle.record.specs.Inside.{place_told};
+ghost use Rattle.record.specs.Inside.{left_off_told};
 
 use field::P;
 use numbers::{read, read_below};
@@ -19,7 +19,7 @@ const U32_BOUND: u64 = 1 << 32;
 
 // n numbers below a bound.
 fn find_numbers(source: &[u8], at: usize, n: usize, bound: u64) -> Result<usize, Refusal>
-    ensures { place_told result ≡ numbers_answer bound n source.now at }
+    ensures { left_off_told result ≡ numbers_answer bound n source.now at }
 {
     let mut next = at;
     for _ in 0..n {
@@ -40,7 +40,7 @@ fn find_head(source: &[u8]) -> Result<(u64, usize), Refusal>
 
 // "Each wire as two elements and its count."
 fn find_wires(source: &[u8], at: usize, n: usize) -> Result<usize, Refusal>
-    ensures { place_told result ≡ wires_answer n source.now at }
+    ensures { left_off_told result ≡ wires_answer n source.now at }
 {
     let mut next = at;
     for _ in 0..n {
@@ -58,7 +58,7 @@ fn find_wire_list(
     values: usize,
     counts: usize,
 ) -> Result<usize, Refusal>
-    ensures { place_told result ≡ wire_list_answer n source.now at values counts }
+    ensures { left_off_told result ≡ wire_list_answer n source.now at values counts }
 {
     if ((values / 2) as u64) < n || (counts as u64) < n {
         return Err(Refusal::NoRoom);
