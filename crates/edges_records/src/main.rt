@@ -1,12 +1,7 @@
 // Runs the edges of record writer and reader, as the program `edges` does those of the parts before them.
 #![tactic(auto)]
 
-mod bytes;
-mod cells;
-mod patch;
 mod reading;
-mod say;
-mod small;
 mod writing;
 
 use std::io;

@@ -2,10 +2,7 @@
 // the parts before them.
 #![tactic(auto)]
 
-mod cells;
 mod results;
-mod say;
-mod states;
 mod tests;
 
 use std::io;

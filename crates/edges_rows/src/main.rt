@@ -1,10 +1,7 @@
 // Runs the edges of row fill, as the program `edges` does those of the parts before it.
 #![tactic(auto)]
 
-mod cells;
 mod filling;
-mod say;
-mod small;
 
 use std::io;
 

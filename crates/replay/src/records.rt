@@ -1,62 +1,29 @@
-// Record writer and reader, over the lent parts of the buffers.
-use crate::buffers::{BYTES, COUNTS, NODES, VALUES, least};
+// Record writer and reader, over the lent cells.
+use crate::buffers::Buffers;
 use crate::circuits::header_of;
-use crate::codes::WRITE;
-use crate::held::Lent;
-use crate::input::ARGUMENTS;
+use crate::instructions::Unknown;
 use crate::{groups, say};
 use std::io;
-use trace::{CircuitEvaluation, HeaderAnswer};
+use trace::{CircuitEvaluation, HeaderAnswer, RecordHeader};
 
-fn write_lent(
-    rt: &impl Print,
-    code: u64,
-    args: [u64; ARGUMENTS],
-    state: CircuitEvaluation,
-    values: &[u64],
-    counts: &[u32],
-    nodes: &[u64],
-    bytes: &mut [u8],
-) -> io::Result<()> {
-    match code {
-        WRITE => {
-            groups::written(
-                rt,
-                record::write_into(header_of(args), values, counts, nodes, bytes),
-            )
-        }
-        _ => groups::written(
-            rt,
-            record::write_state_into(state, values, counts, nodes, bytes),
-        ),
-    }
+#[derive(Clone, Copy)]
+pub enum RecordCall {
+    Write(RecordHeader),
+    WriteState,
+    Read,
 }
 
-pub fn write(
-    rt: &impl Print,
-    code: u64,
-    args: [u64; ARGUMENTS],
-    lent: Lent,
-    state: CircuitEvaluation,
-    values: &[u64],
-    counts: &[u32],
-    nodes: &[u64],
-    bytes: &mut [u8],
-) -> io::Result<()> {
-    let value_cells = least(lent[VALUES], values.len());
-    let count_cells = least(lent[COUNTS], counts.len());
-    let node_cells = least(lent[NODES], nodes.len());
-    let room = least(lent[BYTES], bytes.len());
-    write_lent(
-        rt,
-        code,
-        args,
-        state,
-        &values[0..value_cells],
-        &counts[0..count_cells],
-        &nodes[0..node_cells],
-        &mut bytes[0..room],
-    )
+impl RecordCall {
+    pub fn parse(code: u64, args: &[u64]) -> Result<Self, Unknown> {
+        match (code, args) {
+            (18, &[ctx, clk, num_read, num_eval, id_next]) => {
+                Ok(Self::Write(header_of(ctx, clk, num_read, num_eval, id_next)))
+            }
+            (19, []) => Ok(Self::WriteState),
+            (20, []) => Ok(Self::Read),
+            _ => Err(Unknown),
+        }
+    }
 }
 
 fn told(rt: &impl Print, answer: HeaderAnswer) -> io::Result<()> {
@@ -66,25 +33,27 @@ fn told(rt: &impl Print, answer: HeaderAnswer) -> io::Result<()> {
     }
 }
 
-pub fn read(
+pub fn answer(
     rt: &impl Print,
-    lent: Lent,
-    values: &mut [u64],
-    counts: &mut [u32],
-    nodes: &mut [u64],
-    bytes: &[u8],
+    call: RecordCall,
+    state: CircuitEvaluation,
+    lent: Buffers<'_>,
 ) -> io::Result<()> {
-    let value_cells = least(lent[VALUES], values.len());
-    let count_cells = least(lent[COUNTS], counts.len());
-    let node_cells = least(lent[NODES], nodes.len());
-    let end = least(lent[BYTES], bytes.len());
-    told(
-        rt,
-        record::read_from(
-            &bytes[0..end],
-            &mut values[0..value_cells],
-            &mut counts[0..count_cells],
-            &mut nodes[0..node_cells],
+    let Buffers {
+        values,
+        counts,
+        nodes,
+        bytes,
+        ..
+    } = lent;
+    match call {
+        RecordCall::Write(header) => {
+            groups::written(rt, record::write_into(header, values, counts, nodes, bytes))
+        }
+        RecordCall::WriteState => groups::written(
+            rt,
+            record::write_state_into(state, values, counts, nodes, bytes),
         ),
-    )
+        RecordCall::Read => told(rt, record::read_from(bytes, values, counts, nodes)),
+    }
 }
