@@ -5,7 +5,7 @@ ghost use Rattle.trace.specs.Outcome.{lent};
 ghost use Rattle.eval_circuit.specs.Evaluated.{eval_answer, eval_buffers};
 
 use crate::convert::header_numbers;
-use crate::tell::hand_back;
+use crate::tell::tell;
 use eval_circuit::eval_circuit;
 
 pub fn ace_eval_circuit(
@@ -29,5 +29,6 @@ pub fn ace_eval_circuit(
     let answer = eval_circuit(
         ctx, clk, ptr, num_vars, num_eval, memory, values, counts, nodes,
     );
-    hand_back(answer.map(header_numbers), header, place)
+    *header = answer.map_or(*header, header_numbers);
+    tell(answer, place)
 }

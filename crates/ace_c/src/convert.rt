@@ -1,12 +1,14 @@
 // States, headers and run lists from numbers and back.
-ghost use Rattle.std.specs.Prelude.{◌≡◌};
+ghost use Rattle.std.specs.Prelude.{◌≡◌, [], ◌∷◌};
 ghost use Rattle.trace.specs.Output.{header_numbers};
 ghost use Rattle.ace_c.specs.States.{state_of, six_of};
+ghost use Rattle.ace_c.specs.Lists.{list_of, threes_of};
 
+use runs::{Ace, Entry};
+use std::array;
 use trace::{CircuitEvaluation, RecordHeader};
 
-// ctx, clk, num_read, num_eval, reads_done and evals_done, and beside them id_next.
-#[derive(Clone, Copy)]
+// A state's ctx, clk, num_read, num_eval, reads_done and evals_done, and its id_next.
 pub(crate) struct StateNumbers(pub(crate) [u32; 6], pub(crate) u64);
 
 impl From<StateNumbers> for CircuitEvaluation {
@@ -42,6 +44,7 @@ impl From<CircuitEvaluation> for StateNumbers {
     }
 }
 
+// No `From`: neither type is of this crate, and one of its own would only be taken off the array again.
 pub(crate) fn header_numbers(header: RecordHeader) -> [u64; 5]
     ensures { result ≡ header_numbers header }
 {
@@ -52,4 +55,37 @@ pub(crate) fn header_numbers(header: RecordHeader) -> [u64; 5]
         u64::from(header.num_eval),
         header.id_next,
     ]
+}
+
+// The clk, num_read and num_eval of each entry of a run list, and its length.
+pub(crate) struct ListNumbers(pub(crate) [u32; 96], pub(crate) u32);
+
+impl From<ListNumbers> for Ace {
+    ghost from_gives = { λ numbers list. list ≡ list_of numbers.0 numbers.1 };
+
+    fn from(numbers: ListNumbers) -> Ace {
+        let ListNumbers(threes, len) = numbers;
+        let entries = array::from_fn(|i| Entry {
+            clk: threes[3 * i],
+            num_read: threes[3 * i + 1],
+            num_eval: threes[3 * i + 2],
+        });
+        Ace { entries, len }
+    }
+}
+
+impl From<Ace> for ListNumbers {
+    ghost from_gives = { λ list numbers. (numbers.0 ≡ threes_of list.entries) × (numbers.1 ≡ list.len) };
+
+    fn from(list: Ace) -> ListNumbers {
+        let mut numbers = [0; 96];
+        numbers.copy_from_slice(list.entries.map(three_of).as_flattened());
+        ListNumbers(numbers, list.len)
+    }
+}
+
+fn three_of(entry: Entry) -> [u32; 3]
+    ensures { result ≡ entry.clk ∷ entry.num_read ∷ entry.num_eval ∷ [] }
+{
+    [entry.clk, entry.num_read, entry.num_eval]
 }

@@ -9,7 +9,7 @@ ghost use Rattle.trace.specs.Output.{output_answer};
 ghost use Rattle.ace_c.specs.States.{state_of, six_of, word_by};
 
 use crate::convert::{StateNumbers, header_numbers};
-use crate::tell::{hand_back, tell};
+use crate::tell::tell;
 use in_place::{eval_in_place, read_in_place};
 use trace::CircuitEvaluation;
 
@@ -30,11 +30,11 @@ pub fn ace_new(
     ensures id_next_after { id_next.new ≡ value_or 6 id_next.old (open_answer ctx clk num_read num_eval (lent values.now counts.now nodes.now)) }
     ensures place_after { place.new ≡ place_told (open_answer ctx clk num_read num_eval (lent values.now counts.now nodes.now)) }
 {
-    let answer = CircuitEvaluation::new(ctx, clk, num_read, num_eval, values, counts, nodes);
-    if let Ok(opened) = answer {
-        StateNumbers(*state, *id_next) = opened.into();
+    let opened = CircuitEvaluation::new(ctx, clk, num_read, num_eval, values, counts, nodes);
+    if let Ok(circuit) = opened {
+        StateNumbers(*state, *id_next) = circuit.into();
     }
-    tell(answer, place)
+    tell(opened, place)
 }
 
 pub fn ace_do_read(
@@ -99,5 +99,6 @@ pub fn ace_output_value(
 {
     let state = CircuitEvaluation::from(StateNumbers(*state, id_next));
     let answer = state.output_value(values, counts, nodes);
-    hand_back(answer.map(header_numbers), header, place)
+    *header = answer.map_or(*header, header_numbers);
+    tell(answer, place)
 }
