@@ -16,7 +16,7 @@ use Rattle.runs.specs.declared.Entry.{Entry}
 use Rattle.runs.specs.declared.Ace.{Ace}
 use Rattle.runs.specs.Entries.{in_order, total, rows_before, has_clock, insert}
 use Rattle.runs.specs.Calls.{most_runs, used, sound_list, with_used}
-use Rattle.runs.specs.Inside.{place_of, place_told, opened, opened_at}
+use Rattle.runs.specs.Inside.{place_of, place_answer, opened, opened_at}
 use Rattle.runs.proofs.Scans.{list_of}
 use Rattle.runs.proofs.Places.{found, found_has, before_place, insert_found, insert_new, place_within}
 use Rattle.runs.proofs.Opened.{opened-length, opened-used, set-used}
@@ -34,14 +34,14 @@ pub used-length : (a : Ace) → length a.entries ≡ 32 → a.len ≤ most_runs 
 used-length a l h = length-take-le a.len a.entries (omega arith)
 
 -- what a search says of a clock
-pub told_there : (es : List Entry) (clock at : ℕ) → Ok at ≡ place_told clock es → (has_clock clock es ≡ true) × (at ≡ place_of clock es)
+pub told_there : (es : List Entry) (clock at : ℕ) → Ok at ≡ place_answer clock es → (has_clock clock es ≡ true) × (at ≡ place_of clock es)
 told_there es clock at q = by_case (has_clock clock es) refl
   where
     by_case : (b : Bool) → has_clock clock es ≡ b → (has_clock clock es ≡ true) × (at ≡ place_of clock es)
     by_case true h = let t : Ok at ≡ Ok (place_of clock es) = rw h at q in (h, cc)
     by_case false h = let t : Ok at ≡ Err (place_of clock es) = rw h at q in cc
 
-pub told_lacking : (es : List Entry) (clock at : ℕ) → Err at ≡ place_told clock es → (has_clock clock es ≡ false) × (at ≡ place_of clock es)
+pub told_lacking : (es : List Entry) (clock at : ℕ) → Err at ≡ place_answer clock es → (has_clock clock es ≡ false) × (at ≡ place_of clock es)
 told_lacking es clock at q = by_case (has_clock clock es) refl
   where
     by_case : (b : Bool) → has_clock clock es ≡ b → (has_clock clock es ≡ false) × (at ≡ place_of clock es)
@@ -61,7 +61,7 @@ there_few a clock at p l s h =
     let z = used-length a l s.few in
     omega arith
 
-pub there_low : (a : Ace) (clock at : ℕ) → length a.entries ≡ 32 → Sound a → Ok at ≡ place_told clock (used a) → at < most_runs
+pub there_low : (a : Ace) (clock at : ℕ) → length a.entries ≡ 32 → Sound a → Ok at ≡ place_answer clock (used a) → at < most_runs
 there_low a clock at l s q =
     let there = told_there (used a) clock at q in
     let k = there_few a clock at there.1 l s there.0 in

@@ -13,7 +13,7 @@ use Rattle.std.specs.List.Sorted.{IsBinarySearchResult, IsSearchInRange}
 use Rattle.std.proofs.lemmas.List.{get_or_default}
 use Rattle.runs.specs.declared.Entry.{Entry}
 use Rattle.runs.specs.Entries.{in_order, has_clock}
-use Rattle.runs.specs.Inside.{place_of, place_told, no_entry}
+use Rattle.runs.specs.Inside.{place_of, place_answer, no_entry}
 use Rattle.runs.proofs.Places.{place_nil, place_later, place_here, found, found_has}
 use Rattle.runs.proofs.Rising.{clocks_rise}
 
@@ -27,7 +27,7 @@ place_is (e ∷ es) clock (suc at) h below above =
     ∙ ap suc (place_is es clock at (omega arith) (λ k l. below (suc k) (omega arith)) (λ l. above (omega arith)))
 
 pub search_told : (es : List Entry) (clock : ℕ) (r : Result ℕ ℕ) → in_order 0 es ≡ true → IsSearchInRange r (length es)
-    → IsBinarySearchResult (λ (y : Entry). nat_cmp y.clk clock) es r → r ≡ place_told clock es
+    → IsBinarySearchResult (λ (y : Entry). nat_cmp y.clk clock) es r → r ≡ place_answer clock es
 search_told es clock (Ok at) q within there =
     let e = ranked _ clock Equal (sym (there no_entry)) in
     let p = place_is es clock at (omega arith) (λ k l. let r = clocks_rise es 0 k at q l within in omega arith) (λ l. omega arith) in

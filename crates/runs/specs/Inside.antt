@@ -14,8 +14,8 @@ abbrev pub no_entry : Entry
 no_entry = record { clk = 0; num_read = 0; num_eval = 0 }
 
 -- the place of a clock that is there, or the one that it would have
-abbrev pub place_told : ℕ → List Entry → Result ℕ ℕ
-place_told clock es = cond (has_clock clock es) (Ok (place_of clock es)) (Err (place_of clock es))
+abbrev pub place_answer : ℕ → List Entry → Result ℕ ℕ
+place_answer clock es = cond (has_clock clock es) (Ok (place_of clock es)) (Err (place_of clock es))
 
 -- an entry put before the one at a place
 abbrev pub opened : List Entry → ℕ → Entry → List Entry

@@ -2,7 +2,7 @@
 ghost use Rattle.std.specs.Prelude.{◌≡◌, ◌≤◌, ◌<◌, ◌^◌, true, length};
 ghost use Rattle.runs.specs.Entries.{opens, rows_of, total};
 ghost use Rattle.runs.specs.Calls.{most_runs, used, sound_list};
-ghost use Rattle.runs.specs.Inside.{place_told, opened_at};
+ghost use Rattle.runs.specs.Inside.{place_answer, opened_at};
 
 use crate::{Ace, Entry, MAX_EVAL_CIRCUIT_INVOCATIONS};
 use trace::counts::test_counts;
@@ -58,7 +58,7 @@ impl Ace {
     // The place of a clock that is there, or the one that it would have.
     pub(crate) fn place_of(&self, clk: u32) -> Result<usize, usize>
         requires { sound_list self.now ≡ true }
-        ensures { result ≡ place_told clk (used self.now) }
+        ensures { result ≡ place_answer clk (used self.now) }
     {
         self.used().binary_search_by_key(&clk, |entry| entry.clk)
     }

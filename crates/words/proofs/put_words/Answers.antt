@@ -4,7 +4,10 @@ use mathlib.Core.Path.{◌≡◌, refl, sym, ap, ◌∙◌}
 use Prim.Native.Nat.{◌+◌}
 use lib.ListN.{length}
 use lib.Seq.{length-sets}
-use Rattle.refusal.proofs.Tellings.{clash, same_values}
+use Rattle.refusal.specs.Refusal.{number_alone}
+use Rattle.refusal.proofs.Passing.{told_is_ok}
+use Rattle.refusal.proofs.Tellings.{same_values}
+use Rattle.numbers.specs.Answer.{write_told}
 use Rattle.numbers.specs.Form.{bytes_of, width_of}
 use Rattle.numbers.proofs.Writing.{room_answer, room-written}
 use Rattle.std.proofs.lemmas.List.{length_push}
@@ -29,12 +32,12 @@ unwrap-number-requires c =
     let t = turn c.args.text.now _ c.loop-i.invariant.each c.loop-i.yielded_by _ c.in-Some.is c.next.ensures.steps in
     put_number t c.loop-i.out c.loop-i.at c.loop-i.invariant.fits c.number_of.result c.number_of.ensures
 
-pub unreachable-requires : goal.unreachable-requires
-unreachable-requires c =
+pub unwrap-at-requires : goal.unwrap-at-requires
+unwrap-at-requires c =
     let t = turn c.args.text.now _ c.loop-i.invariant.each c.loop-i.yielded_by _ c.in-Some.is c.next.ensures.steps in
     let q = sym c.unwrap-number.ensures ∙ c.number_of.ensures in
     let h = put_room t c.loop-i.out c.loop-i.at c.loop-i.invariant.fits c.unwrap-number.result q in
-    clash (c.in_default.ensures.result_value ∙ room_answer c.unwrap-number.result c.loop-i.out c.loop-i.at h)
+    told_is_ok number_alone _ _ (c.write.ensures.result_value ∙ room_answer c.unwrap-number.result c.loop-i.out c.loop-i.at h)
 
 pub loop-i-preserved : goal.loop-i-preserved
 loop-i-preserved c =
@@ -42,8 +45,8 @@ loop-i-preserved c =
     let i = c.loop-i.invariant in
     let q = sym c.unwrap-number.ensures ∙ c.number_of.ensures in
     let h = put_room t c.loop-i.out c.loop-i.at i.fits c.unwrap-number.result q in
-    let place : c.in-Next.next ≡ c.loop-i.at + width_of c.unwrap-number.result = cc (same_values (c.in-Next.ensures.result_value ∙ room_answer c.unwrap-number.result c.loop-i.out c.loop-i.at h)) in
-    let bytes = c.in-Next.ensures.out_after ∙ room-written c.unwrap-number.result c.loop-i.out c.loop-i.at h in
+    let place : c.unwrap-at.result ≡ c.loop-i.at + width_of c.unwrap-number.result = cc (same_values (ap write_told (sym c.unwrap-at.ensures) ∙ c.write.ensures.result_value ∙ room_answer c.unwrap-number.result c.loop-i.out c.loop-i.at h)) in
+    let bytes = c.write.ensures.out_after ∙ room-written c.unwrap-number.result c.loop-i.out c.loop-i.at h in
     let size = ap length bytes ∙ length-sets c.loop-i.out c.loop-i.at (bytes_of c.unwrap-number.result) in
     record {
       can = grind serving;
