@@ -30,11 +30,11 @@ pub fn ace_new(
     ensures id_next_after { id_next.new ≡ value_or 6 id_next.old (open_answer ctx clk num_read num_eval (lent values.now counts.now nodes.now)) }
     ensures place_after { place.new ≡ place_told (open_answer ctx clk num_read num_eval (lent values.now counts.now nodes.now)) }
 {
-    let opened = CircuitEvaluation::new(ctx, clk, num_read, num_eval, values, counts, nodes);
-    if let Ok(circuit) = opened {
-        StateNumbers(*state, *id_next) = circuit.into();
+    let answer = CircuitEvaluation::new(ctx, clk, num_read, num_eval, values, counts, nodes);
+    if let Ok(opened) = answer {
+        StateNumbers(*state, *id_next) = opened.into();
     }
-    tell(opened, place)
+    tell(answer, place)
 }
 
 pub fn ace_do_read(
@@ -56,9 +56,10 @@ pub fn ace_do_read(
     ensures place_after { place.new ≡ place_told (read_step (state_of state.old id_next.old) ptr (word_by c0 c1 c2 c3) (lent values.old counts.old nodes.old)).told }
     ensures nodes_after { lent values.new counts.new nodes.new ≡ (read_step (state_of state.old id_next.old) ptr (word_by c0 c1 c2 c3) (lent values.old counts.old nodes.old)).buffers }
 {
-    let mut step = CircuitEvaluation::from(StateNumbers(*state, *id_next));
-    let told = read_in_place(&mut step, ptr, [[c0, c1], [c2, c3]], values, counts, nodes);
-    StateNumbers(*state, *id_next) = step.into();
+    let mut circuit = CircuitEvaluation::from(StateNumbers(*state, *id_next));
+    let word = [[c0, c1], [c2, c3]];
+    let told = read_in_place(&mut circuit, ptr, word, values, counts, nodes);
+    StateNumbers(*state, *id_next) = circuit.into();
     tell(told, place)
 }
 
@@ -78,9 +79,9 @@ pub fn ace_do_eval(
     ensures place_after { place.new ≡ place_told (eval_step (state_of state.old id_next.old) ptr instruction (lent values.old counts.old nodes.old)).told }
     ensures nodes_after { lent values.new counts.new nodes.new ≡ (eval_step (state_of state.old id_next.old) ptr instruction (lent values.old counts.old nodes.old)).buffers }
 {
-    let mut step = CircuitEvaluation::from(StateNumbers(*state, *id_next));
-    let told = eval_in_place(&mut step, ptr, instruction, values, counts, nodes);
-    StateNumbers(*state, *id_next) = step.into();
+    let mut circuit = CircuitEvaluation::from(StateNumbers(*state, *id_next));
+    let told = eval_in_place(&mut circuit, ptr, instruction, values, counts, nodes);
+    StateNumbers(*state, *id_next) = circuit.into();
     tell(told, place)
 }
 
@@ -98,7 +99,7 @@ pub fn ace_output_value(
     ensures place_after { place.new ≡ place_told (output_answer (state_of state.now id_next) (lent values.now counts.now nodes.now)) }
 {
     let state = CircuitEvaluation::from(StateNumbers(*state, id_next));
-    let answer = state.output_value(values, counts, nodes);
-    *header = answer.map_or(*header, header_numbers);
-    tell(answer, place)
+    let output = state.output_value(values, counts, nodes);
+    *header = output.map_or(*header, header_numbers);
+    tell(output, place)
 }

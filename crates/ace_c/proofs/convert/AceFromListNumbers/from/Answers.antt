@@ -1,8 +1,7 @@
 -- `ace_c::convert::AceFromListNumbers::from` meets its contract.
 -- Assumes nothing.
-use Rattle.std.proofs.Common.{◌≡◌, ap, rules, List}
+use Rattle.std.proofs.Common.{ap, rules, List}
 use Rattle.runs.specs.declared.Entry.{Entry}
-use Rattle.runs.specs.declared.Ace.{Ace}
 use Rattle.ace_c.proofs.Threes.{entries_at, no_entry}
 use Rattle.ace_c.proofs.convert.AceFromListNumbers.from.Goals as goal
 
