@@ -3,6 +3,7 @@ use crate::buffers::Buffers;
 use crate::cells::Cell;
 use crate::instructions::Unknown;
 use crate::say;
+use refusal::Refusal;
 use std::io;
 use trace::{CircuitEvaluation, RefusedStep};
 
@@ -82,7 +83,7 @@ fn stepped(
         Ok(after) => after,
         Err(refused) => refused.state,
     };
-    say::answer(rt, outcome.map(|_| []).map_err(|refused| refused.refusal))?;
+    say::answer(rt, outcome.map(|_| []).map_err(Refusal::from))?;
     say::numbers(rt, &say::state_numbers(*state))
 }
 
