@@ -1,6 +1,6 @@
 -- Laws of `first_over` and `of_elements`: what a caller uses of them.
 -- Assumes nothing.
-use Rattle.std.proofs.Common.{◌≡◌, ℕ, zero, suc, ◌+◌, ◌-◌, ◌<◌, ◌≤◌, List, [], ◌∷◌, ◌++◌, length, min, get_or, take, drop, Result, sym, refl, ap, ◌∙◌, ⊎_elim, arith, drop_of_length-le, drop-cons, le-ltb, lt-ltb}
+use Rattle.std.proofs.Common.{◌≡◌, ℕ, zero, suc, ◌+◌, ◌-◌, ◌<◌, ◌≤◌, List, [], ◌∷◌, length, min, get_or, take, drop, Result, sym, refl, ap, ◌∙◌, ⊎_elim, arith, drop_of_length-le, drop-cons, le-ltb, lt-ltb}
 use Rattle.std.proofs.Math.Seq.{take-length}
 use lib.Seq.{take-nil}
 use Rattle.refusal.specs.Told.{Told, accepted, refused, or_else}
@@ -9,8 +9,7 @@ use Rattle.refusal.specs.declared.Refusal.{Refusal}
 use Rattle.refusal.proofs.Passing.{stops, passes}
 use Rattle.std.specs.Result.{IsErr, IsErrAnd}
 use Rattle.field.specs.Field.{p, first_over}
-use Rattle.field.specs.Answer.{of_elements, cells_of, quad_answer}
-use Rattle.field.specs.Pair.{Pair, pair, cells}
+use Rattle.field.specs.Answer.{of_elements}
 use Rattle.field.proofs.Cases.{below?}
 use Rattle.refusal.proofs.Tellings.{clash, same_values}
 
@@ -87,10 +86,6 @@ elements_same xs vs ws is =
 -- what is made of numbers that are elements
 pub elements_passed : (make : List ℕ → List ℕ) (xs vs ws us : List ℕ) → accepted vs ≡ of_elements xs (accepted ws) → us ≡ make vs → accepted us ≡ of_elements xs (accepted (make ws))
 elements_passed make xs vs ws us is e = ap accepted (e ∙ ap make (elements_same xs vs ws is)) ∙ passes vs _ _ is ∙ else_elements xs ws _
-
-pub pairs_passed : (f : Pair → Pair → Pair) (a b us : List ℕ) (x y : Pair) → accepted (cells x ++ cells y) ≡ of_elements (cells_of a b) (accepted (cells_of a b)) → us ≡ cells (f x y) → accepted us ≡ quad_answer f a b
-pairs_passed f a b us x y is e =
-    elements_passed (λ xs. cells (f (pair (get_or xs 0 0) (get_or xs 1 0)) (pair (get_or xs 2 0) (get_or xs 3 0)))) _ _ _ _ is e
 
 -- numbers of which nothing is refused are elements
 pub elements_of : (xs vs : List ℕ) (t : Told) → of_elements xs t ≡ accepted vs → (k : ℕ) → k < length xs → get_or xs k 0 < p

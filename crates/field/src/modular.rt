@@ -1,5 +1,5 @@
 // Arithmetic modulo p, with no integer wider than 64 bits.
-ghost use Rattle.std.specs.Prelude.{◌≡◌, ◌+◌, ◌*◌, ◌%◌, ◌^◌, ◌<◌, if◌then◌else◌};
+ghost use Rattle.std.specs.Prelude.{◌≡◌, ℕ, ◌+◌, ◌*◌, ◌%◌, ◌^◌, ◌<◌, if◌then◌else◌};
 ghost use Rattle.field.specs.Field.{p, add_f, sub_f, mul_f};
 
 use crate::P;
@@ -20,60 +20,42 @@ pub struct Felt {
 }
 
 impl Model for Felt {
-    ghost use Rattle.std.specs.Prelude.{ℕ, ◌<◌};
-    ghost use Rattle.field.specs.Field.{p};
-
     ghost Value = { ℕ };
 
-    ghost view = { λ e. e.value };
+    ghost view = { λ a. a.value };
 
-    ghost invariant = { λ e. e.value < p };
+    ghost invariant = { λ a. a.value < p };
 
     ghost inverse = { λ n. record { value = n } };
 }
 
 impl Felt {
-    pub fn new(value: u64) -> Felt
-        requires { value < p }
-        ensures { result ≡ value }
+    // Each is a less some number, which is chosen first: so put, compilers make no branch of the choice, at which a
+    // processor would often guess wrong.
+    pub fn add_or_sub(self, less: bool, rhs: Felt) -> Felt
+        ensures { result ≡ (if less then sub_f self rhs else add_f self rhs) }
     {
+        let (a, b) = (self.value, rhs.value);
+        let t = if less { b } else { P - b };
+        let value = if t <= a { a - t } else { a + (P - t) };
         Felt { value }
     }
 
-    pub fn value(self) -> u64
-        ensures { result ≡ self }
-    {
-        self.value
-    }
-
-    // Each is a less some number, which is chosen first: so put, compilers make no branch of the choice, at which a
-    // processor would often guess wrong.
-    pub fn add_or_sub(self, less: bool, b: Felt) -> Felt
-        ensures { result ≡ (if less then sub_f self b else add_f self b) }
-    {
-        let t = if less { b.value } else { P - b.value };
-        Felt {
-            value: if t <= self.value {
-                self.value - t
-            } else {
-                self.value + (P - t)
-            },
-        }
-    }
-
     // A turn of a long division by p, of which only the remainder is kept: the digit is brought down beside the
-    // remainder so far; that remainder divided by the leading digit of p is the next digit of the quotient, which is
+    // remainder so far. That remainder divided by the leading digit of p is the next digit of the quotient, which is
     // one too large where its product with the other digit of p cannot be taken off. (The difference then adds p.)
     fn with_digit(self, digit: u64) -> Felt
         requires { digit < 2 ^ 32 }
         ensures { result ≡ (self * 2 ^ 32 + digit) % p }
     {
-        let r = self.value;
-        Felt {
-            value: r % P_HI * BASE + digit,
-        } - Felt {
-            value: r / P_HI * P_LO,
-        }
+        let (quotient, rest) = (self.value / P_HI, self.value % P_HI);
+        let brought = Felt {
+            value: rest * BASE + digit,
+        };
+        brought
+            - Felt {
+                value: quotient * P_LO,
+            }
     }
 }
 
@@ -82,15 +64,11 @@ impl Add for Felt {
 
     ghost add_gives = { λ a b r. r ≡ add_f a b };
 
-    fn add(self, b: Felt) -> Felt {
-        let t = P - b.value;
-        Felt {
-            value: if self.value < t {
-                self.value + b.value
-            } else {
-                self.value - t
-            },
-        }
+    fn add(self, rhs: Felt) -> Felt {
+        let (a, b) = (self.value, rhs.value);
+        let t = P - b;
+        let value = if a < t { a + b } else { a - t };
+        Felt { value }
     }
 }
 
@@ -99,14 +77,10 @@ impl Sub for Felt {
 
     ghost sub_gives = { λ a b r. r ≡ sub_f a b };
 
-    fn sub(self, b: Felt) -> Felt {
-        Felt {
-            value: if b.value <= self.value {
-                self.value - b.value
-            } else {
-                self.value + (P - b.value)
-            },
-        }
+    fn sub(self, rhs: Felt) -> Felt {
+        let (a, b) = (self.value, rhs.value);
+        let value = if b <= a { a - b } else { a + (P - b) };
+        Felt { value }
     }
 }
 
@@ -115,8 +89,8 @@ impl Mul for Felt {
 
     ghost mul_gives = { λ a b r. r ≡ mul_f a b };
 
-    fn mul(self, b: Felt) -> Felt {
-        let w = product(self.value, b.value);
+    fn mul(self, rhs: Felt) -> Felt {
+        let w = product(self.value, rhs.value);
         reduce(w.hi, w.lo)
     }
 }
@@ -165,7 +139,7 @@ fn plus(hi: Felt, a: u64, b: u64) -> Wide
     let lo = std::num::wrapping_add_u64(a, b);
     Wide {
         hi: if lo < a { hi.value + 1 } else { hi.value },
-        lo: lo,
+        lo,
     }
 }
 
@@ -173,7 +147,6 @@ fn plus(hi: Felt, a: u64, b: u64) -> Wide
 fn reduce(hi: u64, lo: u64) -> Felt
     ensures { result ≡ (hi * 2 ^ 64 + lo) % p }
 {
-    Felt { value: hi % P }
-        .with_digit(lo / BASE)
-        .with_digit(lo % BASE)
+    let r = Felt { value: hi % P };
+    r.with_digit(lo / BASE).with_digit(lo % BASE)
 }
