@@ -2,8 +2,6 @@ pub mod Ring
 pub mod Cases
 pub mod Halves
 pub mod Remainders
-pub mod Division
-pub mod Products
 pub mod Over
 pub mod Laws
 pub mod PairLaws

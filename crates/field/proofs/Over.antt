@@ -10,9 +10,8 @@ use Rattle.refusal.proofs.Passing.{stops, passes}
 use Rattle.std.specs.Result.{IsErr, IsErrAnd}
 use Rattle.field.specs.Field.{p, first_over}
 use Rattle.field.specs.Answer.{of_elements}
-use Rattle.field.specs.Pair.{pair, Elements}
 use Rattle.field.proofs.Cases.{below?}
-use Rattle.refusal.proofs.Tellings.{clash}
+use Rattle.refusal.proofs.Tellings.{clash, same_values}
 
 pub over_here : (x : ℕ) (xs : List ℕ) → p ≤ x → first_over (x ∷ xs) ≡ 0
 unfolding first_over
@@ -66,19 +65,27 @@ pub of_elements_lem : (xs : List ℕ) (t : Told) → length xs ≤ first_over xs
 unfolding of_elements
 of_elements_lem xs t h = rw (le-ltb (first_over xs) (length xs) h)
 
--- a look at numbers, and then what comes after
-pub else_elements : (xs : List ℕ) (t : Told) → or_else (of_elements xs (accepted [])) t ≡ of_elements xs t
-else_elements xs t =
+-- numbers looked at, and then what comes after
+else_elements : (xs vs : List ℕ) (t : Told) → or_else (of_elements xs (accepted vs)) t ≡ of_elements xs t
+else_elements xs vs t =
     ⊎_elim
-    (λ l. let r = refused_at xs t (first_over xs) refl l in ap (λ (y : Told). or_else y t) (sym (refused_at xs (accepted []) (first_over xs) refl l)) ∙ r)
-    (λ l. ap (λ (y : Told). or_else y t) (of_elements_lem xs (accepted []) l) ∙ sym (of_elements_lem xs t l))
+    (λ l. ap (λ (y : Told). or_else y t) (sym (refused_at xs (accepted vs) (first_over xs) refl l)) ∙ refused_at xs t (first_over xs) refl l)
+    (λ l. ap (λ (y : Told). or_else y t) (of_elements_lem xs (accepted vs) l) ∙ sym (of_elements_lem xs t l))
     (below? (first_over xs) (length xs))
 
-pub elements_refused : {T : Type 0} (values : T → List ℕ) (r : Result T Refusal) (e : Refusal) (xs : List ℕ) (t : Told) → IsErr r × IsErrAnd r (λ y. y ≡ e) → refused (number_of e) (place_of e) ≡ of_elements xs (accepted []) → told values r ≡ of_elements xs t
-elements_refused values r e xs t h is = stops values r e _ t h is ∙ else_elements xs t
+pub elements_refused : {T : Type 0} (values : T → List ℕ) (r : Result T Refusal) (e : Refusal) (xs vs : List ℕ) (t : Told) → IsErr r × IsErrAnd r (λ y. y ≡ e) → refused (number_of e) (place_of e) ≡ of_elements xs (accepted vs) → told values r ≡ of_elements xs t
+elements_refused values r e xs vs t h is = stops values r e _ t h is ∙ else_elements xs vs t
 
-pub elements_passed : (xs : List ℕ) (t : Told) → accepted [] ≡ of_elements xs (accepted []) → t ≡ of_elements xs t
-elements_passed xs t is = passes [] _ t is ∙ else_elements xs t
+elements_same : (xs vs ws : List ℕ) → accepted vs ≡ of_elements xs (accepted ws) → vs ≡ ws
+elements_same xs vs ws is =
+    ⊎_elim
+    (λ l. clash (refused_at xs (accepted ws) (first_over xs) refl l ∙ sym is))
+    (λ l. same_values (is ∙ of_elements_lem xs (accepted ws) l))
+    (below? (first_over xs) (length xs))
+
+-- what is made of numbers that are elements
+pub elements_passed : (make : List ℕ → List ℕ) (xs vs ws us : List ℕ) → accepted vs ≡ of_elements xs (accepted ws) → us ≡ make vs → accepted us ≡ of_elements xs (accepted (make ws))
+elements_passed make xs vs ws us is e = ap accepted (e ∙ ap make (elements_same xs vs ws is)) ∙ passes vs _ _ is ∙ else_elements xs ws _
 
 -- numbers of which nothing is refused are elements
 pub elements_of : (xs vs : List ℕ) (t : Told) → of_elements xs t ≡ accepted vs → (k : ℕ) → k < length xs → get_or xs k 0 < p
@@ -87,14 +94,6 @@ elements_of xs vs t e k h =
     (λ l. clash (refused_at xs t (first_over xs) refl l ∙ e))
     (λ l. over_below xs k (omega arith))
     (below? (first_over xs) (length xs))
-
--- four numbers of which nothing is refused are two pairs of elements
-pub pairs_passed : (a₀ a₁ b₀ b₁ : ℕ) (t : Told) → accepted [] ≡ of_elements (a₀ ∷ a₁ ∷ b₀ ∷ b₁ ∷ []) t → Elements (pair a₀ a₁) × Elements (pair b₀ b₁)
-pairs_passed a₀ a₁ b₀ b₁ t e =
-    let h = elements_of _ _ _ (sym e) in (
-      record { low = h 0 (omega arith); high = h 1 (omega arith) },
-      record { low = h 2 (omega arith); high = h 3 (omega arith) },
-    )
 
 -- a look at cells, one after the other
 part_one : (xs : List ℕ) (at end : ℕ) → at < end → at < length xs → take (end - at) (drop at xs) ≡ get_or xs at 0 ∷ take (end - (at + 1)) (drop (at + 1) xs)

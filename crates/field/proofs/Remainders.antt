@@ -17,10 +17,6 @@ mod_mul_mod a b m = ap (λ (x : ℕ). x % m) (mul_comm (a % m) b) ∙ mul_mod_mo
 pub mod_below : (x : ℕ) → x % p < p
 mod_below x = omega arith
 
--- a remainder with one more digit beside it
-pub digit : (x b d : ℕ) → (x % p * b + d) % p ≡ (x * b + d) % p
-digit x b d = sym (mod-add-mod (x % p * b) p d) ∙ ap (λ (y : ℕ). (y + d) % p) (mod_mul_mod x b p) ∙ mod-add-mod (x * b) p d
-
 -- a sum with a multiple of a remainder
 pub sum_with : (x a y b u r : ℕ) → r ≡ (x + u * b) % p → u ≡ a * y % p → r ≡ (x + a * (y * b)) % p
 sum_with x a y b u r e eu =
@@ -30,9 +26,3 @@ sum_with x a y b u r e eu =
     ∙ ap (λ (i : ℕ). (x % p + i) % p) (mod_mul_mod (a * y) b p)
     ∙ sym (add-mod x (a * y * b) p)
     ∙ ap (λ (i : ℕ). (x + i) % p) (mul_assoc a y b)
-
-pub sum_of : (x y u v r : ℕ) → r ≡ (u + v) % p → u ≡ x % p → v ≡ y % p → r ≡ (x + y) % p
-sum_of x y u v r e eu ev = e ∙ ap₂ (λ (i j : ℕ). (i + j) % p) eu ev ∙ sym (add-mod x y p)
-
-pub product_of : (a x u r : ℕ) → r ≡ a * u % p → u ≡ x % p → r ≡ a * x % p
-product_of a x u r e eu = e ∙ ap (λ (i : ℕ). a * i % p) eu ∙ mul_mod_mod a x p

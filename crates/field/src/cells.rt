@@ -6,6 +6,7 @@ ghost use Rattle.field.specs.Field.{first_over};
 ghost use Rattle.field.specs.Answer.{of_elements};
 
 use crate::P;
+use crate::modular::Felt;
 use refusal::Refusal;
 
 // The place of the first cell from start on that is p or more; where none before end is, the place
@@ -31,4 +32,16 @@ pub fn test_elements(numbers: &[u64]) -> Result<(), Refusal>
         return Err(Refusal::NotElement(place as u64));
     }
     Ok(())
+}
+
+// The numbers as elements, where they are.
+pub(crate) fn elements<const N: usize>(numbers: [u64; N]) -> Result<[Felt; N], Refusal>
+    ensures { told (λ felts. felts) result ≡ of_elements numbers.entry (accepted numbers.entry) }
+{
+    test_elements(&numbers)?;
+    let mut felts = [Felt { value: 0 }; N];
+    for at in 0..N {
+        felts[at] = Felt { value: numbers[at] };
+    }
+    Ok(felts)
 }

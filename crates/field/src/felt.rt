@@ -3,27 +3,26 @@ ghost use Rattle.std.specs.Prelude.{◌≡◌};
 ghost use Rattle.field.specs.Field.{add_f, sub_f, mul_f};
 ghost use Rattle.field.specs.Answer.{felt_told, felt_answer};
 
-use crate::cells::test_elements;
-use crate::modular::{add_mod, mul_mod, sub_mod};
+use crate::cells::elements;
 use refusal::Refusal;
 
 pub fn add(a: u64, b: u64) -> Result<u64, Refusal>
     ensures { felt_told result ≡ felt_answer add_f a b }
 {
-    test_elements(&[a, b])?;
-    Ok(add_mod(a, b))
+    let [a, b] = elements([a, b])?;
+    Ok((a + b).value)
 }
 
 pub fn sub(a: u64, b: u64) -> Result<u64, Refusal>
     ensures { felt_told result ≡ felt_answer sub_f a b }
 {
-    test_elements(&[a, b])?;
-    Ok(sub_mod(a, b))
+    let [a, b] = elements([a, b])?;
+    Ok((a - b).value)
 }
 
 pub fn mul(a: u64, b: u64) -> Result<u64, Refusal>
     ensures { felt_told result ≡ felt_answer mul_f a b }
 {
-    test_elements(&[a, b])?;
-    Ok(mul_mod(a, b))
+    let [a, b] = elements([a, b])?;
+    Ok((a * b).value)
 }

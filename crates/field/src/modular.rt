@@ -1,8 +1,10 @@
 // Arithmetic modulo p, with no integer wider than 64 bits.
-ghost use Rattle.std.specs.Prelude.{◌≡◌, ◌+◌, ◌*◌, ◌%◌, ◌^◌, ◌<◌, if◌then◌else◌};
+ghost use Rattle.std.specs.Prelude.{◌≡◌, ℕ, ◌+◌, ◌*◌, ◌%◌, ◌^◌, ◌<◌, if◌then◌else◌};
 ghost use Rattle.field.specs.Field.{p, add_f, sub_f, mul_f};
 
 use crate::P;
+use std::marker::Model;
+use std::ops::{Add, Mul, Sub};
 
 // Numbers of 64 bits are two digits to this base.
 const BASE: u64 = 0x1_0000_0000;
@@ -11,47 +13,96 @@ const P_HI: u64 = P / BASE;
 
 const P_LO: u64 = P % BASE;
 
-pub fn add_mod(a: u64, b: u64) -> u64
-    requires { (a < p) × (b < p) }
-    ensures { result ≡ add_f a b }
-{
-    let t = P - b;
-    if a < t { a + b } else { a - t }
+// An element: a number below p.
+#[derive(Clone, Copy)]
+pub struct Felt {
+    pub value: u64,
 }
 
-pub fn sub_mod(a: u64, b: u64) -> u64
-    requires { (a < p) × (b < p) }
-    ensures { result ≡ sub_f a b }
-{
-    if b <= a { a - b } else { a + (P - b) }
+impl Model for Felt {
+    ghost Value = { ℕ };
+
+    ghost view = { λ a. a.value };
+
+    ghost invariant = { λ a. a.value < p };
+
+    ghost inverse = { λ n. record { value = n } };
 }
 
-// Each is a less some number, which is chosen first: so put, compilers make no branch of the choice, at which a processor
-// would often guess wrong.
-pub fn add_or_sub_mod(less: bool, a: u64, b: u64) -> u64
-    requires { (a < p) × (b < p) }
-    ensures { result ≡ (if less then sub_f a b else add_f a b) }
-{
-    let t = if less { b } else { P - b };
-    if t <= a { a - t } else { a + (P - t) }
+impl Felt {
+    // Each is a less some number, which is chosen first: so put, compilers make no branch of the choice, at which a
+    // processor would often guess wrong.
+    pub fn add_or_sub(self, less: bool, rhs: Felt) -> Felt
+        ensures { result ≡ (if less then sub_f self rhs else add_f self rhs) }
+    {
+        let (a, b) = (self.value, rhs.value);
+        let t = if less { b } else { P - b };
+        let value = if t <= a { a - t } else { a + (P - t) };
+        Felt { value }
+    }
+
+    // A turn of a long division by p, of which only the remainder is kept: the digit is brought down beside the
+    // remainder so far. That remainder divided by the leading digit of p is the next digit of the quotient, which is
+    // one too large where its product with the other digit of p cannot be taken off. (The difference then adds p.)
+    fn with_digit(self, digit: u64) -> Felt
+        requires { digit < 2 ^ 32 }
+        ensures { result ≡ (self * 2 ^ 32 + digit) % p }
+    {
+        let (quotient, rest) = (self.value / P_HI, self.value % P_HI);
+        let brought = Felt {
+            value: rest * BASE + digit,
+        };
+        brought
+            - Felt {
+                value: quotient * P_LO,
+            }
+    }
 }
 
-pub fn mul_mod(a: u64, b: u64) -> u64
-    ensures { result ≡ mul_f a b }
-{
-    let w = product(a, b);
-    reduce(w.hi, w.lo)
+impl Add for Felt {
+    type Output = Felt;
+
+    ghost add_gives = { λ a b r. r ≡ add_f a b };
+
+    fn add(self, rhs: Felt) -> Felt {
+        let (a, b) = (self.value, rhs.value);
+        let t = P - b;
+        let value = if a < t { a + b } else { a - t };
+        Felt { value }
+    }
+}
+
+impl Sub for Felt {
+    type Output = Felt;
+
+    ghost sub_gives = { λ a b r. r ≡ sub_f a b };
+
+    fn sub(self, rhs: Felt) -> Felt {
+        let (a, b) = (self.value, rhs.value);
+        let value = if b <= a { a - b } else { a + (P - b) };
+        Felt { value }
+    }
+}
+
+impl Mul for Felt {
+    type Output = Felt;
+
+    ghost mul_gives = { λ a b r. r ≡ mul_f a b };
+
+    fn mul(self, rhs: Felt) -> Felt {
+        let w = product(self.value, rhs.value);
+        reduce(w.hi, w.lo)
+    }
 }
 
 // a * b + c * d: one remainder of both products. What the sum of their higher cells has over p is taken off,
 // since p * 2^64 is a multiple of p.
-pub fn sum_of_products(a: u64, b: u64, c: u64, d: u64) -> u64
-    requires { (a < p) × (b < p) × (c < p) × (d < p) }
+pub fn sum_of_products(a: Felt, b: Felt, c: Felt, d: Felt) -> Felt
     ensures { result ≡ (a * b + c * d) % p }
 {
-    let w = product(a, b);
-    let x = product(c, d);
-    let sum = plus(add_mod(w.hi, x.hi), w.lo, x.lo);
+    let w = product(a.value, b.value);
+    let x = product(c.value, d.value);
+    let sum = plus(Felt { value: w.hi } + Felt { value: x.hi }, w.lo, x.lo);
     reduce(sum.hi, sum.lo)
 }
 
@@ -82,25 +133,20 @@ fn product(a: u64, b: u64) -> Wide
 }
 
 // hi * 2^64 + a + b.
-fn plus(hi: u64, a: u64, b: u64) -> Wide
-    requires { hi < p }
+fn plus(hi: Felt, a: u64, b: u64) -> Wide
     ensures { result.hi * 2 ^ 64 + result.lo ≡ hi * 2 ^ 64 + a + b }
 {
     let lo = std::num::wrapping_add_u64(a, b);
     Wide {
-        hi: if lo < a { hi + 1 } else { hi },
-        lo: lo,
+        hi: if lo < a { hi.value + 1 } else { hi.value },
+        lo,
     }
 }
 
-// Long division by p, of which only the remainder is kept. Each of the two digits of lo is brought
-// down beside the remainder so far; that remainder divided by the leading digit of p is the next
-// digit of the quotient, which is one too large where its product with the other digit of p cannot
-// be taken off. (sub_mod then adds p.)
-fn reduce(hi: u64, lo: u64) -> u64
+// Long division by p: each of the two digits of lo is brought down.
+fn reduce(hi: u64, lo: u64) -> Felt
     ensures { result ≡ (hi * 2 ^ 64 + lo) % p }
 {
-    let r = hi % P;
-    let s = sub_mod(r % P_HI * BASE + lo / BASE, r / P_HI * P_LO);
-    sub_mod(s % P_HI * BASE + lo % BASE, s / P_HI * P_LO)
+    let r = Felt { value: hi % P };
+    r.with_digit(lo / BASE).with_digit(lo % BASE)
 }

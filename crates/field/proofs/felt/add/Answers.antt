@@ -1,17 +1,13 @@
 -- `field::felt::add` meets its contract.
 -- Assumes nothing.
-use Rattle.std.proofs.Common.{ℕ, [], ◌∷◌, ap, ◌∙◌, sym, arith}
-use Rattle.refusal.specs.Told.{accepted}
+use Rattle.std.proofs.Common.{ℕ, List, [], ◌∷◌, ap, ◌∙◌, get_or}
 use Rattle.refusal.specs.Refusal.{number_alone}
-use Rattle.field.proofs.Over.{elements_refused, elements_passed, elements_of}
+use Rattle.field.specs.Field.{add_f}
+use Rattle.field.proofs.Over.{elements_refused, elements_passed}
 use Rattle.field.proofs.felt.add.Goals as goal
 
-pub returns-in_err-test_elements : goal.returns-in_err-test_elements
-returns-in_err-test_elements c = elements_refused number_alone _ _ _ _ c.from_residual.ensures c.in_err-test_elements.ensures
-
-pub add_mod-requires : goal.add_mod-requires
-add_mod-requires c =
-    let h = elements_of _ _ _ (sym c.in_ok-test_elements.ensures) in (h 0 (omega arith), h 1 (omega arith))
+pub returns-in_err-a : goal.returns-in_err-a
+returns-in_err-a c = elements_refused number_alone _ _ _ _ _ c.from_residual.ensures c.in_err-a.ensures
 
 pub returns : goal.returns
-returns c = ap (λ (v : ℕ). accepted (v ∷ [])) c.add_mod.ensures ∙ elements_passed _ _ c.in_ok-test_elements.ensures
+returns c = elements_passed (λ xs. add_f (get_or xs 0 c.index-branch-0.result) (get_or xs 1 c.index-branch-1.result) ∷ []) _ _ _ _ c.in_ok-a.ensures (ap number_alone (c.result.view_is ∙ c.add.ensures))

@@ -1,21 +1,17 @@
 -- `field::quad::add_or_sub` meets its contract.
 -- Assumes nothing.
-use Rattle.std.proofs.Common.{ap, ◌∙◌}
-use Rattle.refusal.specs.Told.{accepted}
-use Rattle.field.proofs.Over.{elements_refused, elements_passed, pairs_passed}
+use Rattle.std.proofs.Common.{List, ℕ, cond, get_or, ◌∙◌}
+use Rattle.field.specs.Pair.{pair, cells, add_pair, sub_pair}
+use Rattle.field.proofs.Over.{elements_refused, elements_passed}
 use Rattle.field.proofs.PairLaws.{pair_chosen}
 use Rattle.field.proofs.quad.add_or_sub.Goals as goal
 
-pub returns-in_err-test_pairs : goal.returns-in_err-test_pairs
-returns-in_err-test_pairs c = elements_refused (λ a. a) _ _ _ _ c.from_residual.ensures c.in_err-test_pairs.ensures
-
-pub add_or_sub_mod-requires : goal.add_or_sub_mod-requires
-add_or_sub_mod-requires c = let h = pairs_passed _ _ _ _ _ c.in_ok-test_pairs.ensures in (h.0.low, h.1.low)
-
-pub add_or_sub_mod-requires-2 : goal.add_or_sub_mod-requires-2
-add_or_sub_mod-requires-2 c = let h = pairs_passed _ _ _ _ _ c.in_ok-test_pairs.ensures in (h.0.high, h.1.high)
+pub returns-in_err-a0 : goal.returns-in_err-a0
+returns-in_err-a0 c = elements_refused (λ a. a) _ _ _ _ _ c.from_residual.ensures c.in_err-a0.ensures
 
 pub returns : goal.returns
 returns c =
-    ap accepted (pair_chosen c.args.less _ _ _ _ c.add_or_sub_mod.ensures c.add_or_sub_mod-2.ensures)
-    ∙ elements_passed _ _ c.in_ok-test_pairs.ensures
+    elements_passed
+    (λ xs. cells (cond c.args.less sub_pair add_pair (pair (get_or xs 0 c.index-branch-0.result) (get_or xs 1 c.index-branch-1.result)) (pair (get_or xs 2 c.index-branch-2.result) (get_or xs 3 c.index-branch-3.result))))
+    _ _ _ _ c.in_ok-a0.ensures
+    (pair_chosen c.args.less _ _ _ _ (c.result.view_is ∙ c.add_or_sub.ensures) (c.result-2.view_is ∙ c.add_or_sub-2.ensures))
