@@ -2,7 +2,8 @@
 -- Assumes nothing.
 use Rattle.determined.specs.Determined.{Determined}
 use Rattle.determined.proofs.Same.{same}
-use Rattle.field.proofs.Answers.{felt_determined, quad_determined, tested_determined}
+use Rattle.field.proofs.Answers.{felt_determined, quad_determined}
+use Rattle.refusal.proofs.Known.{nothing_determined}
 use Rattle.field.proofs.felt.add.Reads as felt-add
 use Rattle.field.specs.contracts.felt.add as felt-add-contract
 use Rattle.field.proofs.felt.sub.Reads as felt-sub
@@ -47,4 +48,4 @@ pub first_over_determined : Determined first-over-contract.ended first-over.Lear
 first_over_determined κs a o q e f = λ i. (same e f i, _)
 
 pub test_elements_determined : Determined test-elements-contract.ended test-elements.Learnt
-test_elements_determined κs a (r, _) (s, _) e f = λ i. (tested_determined r s (same e f) i, _)
+test_elements_determined κs a (r, _) (s, _) e f = λ i. (nothing_determined r s (same e f) i, _)

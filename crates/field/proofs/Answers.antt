@@ -1,8 +1,8 @@
 -- What the public contracts determine: an answer is known from what it tells, and of elements it is the value.
 -- Assumes nothing.
-use Rattle.std.proofs.Common.{◌≡◌, ℕ, ◌<◌, List, [], ◌∷◌, Result, refl, get_or, arith}
+use Rattle.std.proofs.Common.{◌≡◌, ℕ, ◌<◌, List, [], ◌∷◌, Result, get_or, arith}
 use Rattle.refusal.specs.Told.{accepted}
-use Rattle.refusal.specs.Refusal.{told, number_alone, nothing}
+use Rattle.refusal.specs.Refusal.{number_alone}
 use Rattle.refusal.specs.declared.Refusal.{Refusal}
 use Rattle.refusal.proofs.Known.{told_determined}
 use Rattle.field.specs.Answer.{felt_told, quad_told, felt_answer, quad_answer, pair_of, cells_of}
@@ -12,9 +12,6 @@ use Rattle.field.proofs.Over.{over_later, of_elements_lem}
 
 pub felt_determined : (r s : Result ℕ Refusal) → felt_told r ≡ felt_told s → r ≡ s
 felt_determined = told_determined number_alone (λ v w e. cc)
-
-pub tested_determined : (r s : Result Unit Refusal) → told nothing r ≡ told nothing s → r ≡ s
-tested_determined = told_determined nothing (λ v w e. refl)
 
 pub quad_determined : (r s : Result (List ℕ) Refusal) → quad_told r ≡ quad_told s → r ≡ s
 quad_determined = told_determined (λ a. a) (λ v w e. e)

@@ -39,14 +39,9 @@ fn put_record(
     let num_wires = 2 * header.num_read as u64 + header.num_eval as u64;
     let first = [num_rows as u64, num_wires];
     let first_at = put_word(b"accept ", out);
-    let rows_at = put_lines(&first, 2, 2, out, first_at);
-    put_lines(
-        &rows,
-        ACE_CHIPLET_NUM_COLS * num_rows,
-        ACE_CHIPLET_NUM_COLS,
-        out,
-        rows_at,
-    )
+    let rows_at = put_lines(&first, 2, out, first_at);
+    let cells = &rows[..ACE_CHIPLET_NUM_COLS * num_rows];
+    put_lines(cells, ACE_CHIPLET_NUM_COLS, out, rows_at)
 }
 
 pub fn evaluate(

@@ -25,15 +25,13 @@ fn read_numbers(input: &[u8], at: usize, n: usize, cells: &mut [u64], from: usiz
     ensures where_accepted { WhereAccepted (numbers_answer (2 ^ 64) n input.now at) (cells.new ≡ sets cells.old from (numbers_from n input.now at)) }
 {
     let mut next = at;
-    let mut i: usize = 0;
-    while i < n {
+    for i in 0..n {
         let found = read(input, next);
         let ReadAnswer::Number(value, after) = found else {
             return found;
         };
         cells[from + i] = value;
         next = after;
-        i += 1;
     }
     ReadAnswer::Number(0, next)
 }
@@ -82,10 +80,7 @@ fn over_room(num_vars: u64, num_eval: u64) -> bool
     ensures { result ≡ over_room (num_vars + num_eval) }
 {
     let most = MAX_EVAL_CIRCUIT_WIRES as u64;
-    if most < num_vars {
-        return false;
-    }
-    if most - num_vars < num_eval {
+    if most < num_vars || most - num_vars < num_eval {
         return false;
     }
     MOST_WIRES < num_vars + num_eval

@@ -1,7 +1,9 @@
 -- What the private functions promise each other. No public contract cites this file.
 -- Assumes nothing.
-use Rattle.std.specs.Prelude.{◌≡◌, ℕ, ◌+◌, ◌*◌, ◌≤◌, ◌<◌, List, [], ◌∷◌, length}
-use Rattle.refusal.specs.Told.{accepted}
+use Rattle.std.specs.Prelude.{◌≡◌, ℕ, ◌+◌, ◌*◌, ◌≤◌, ◌<◌, List, [], ◌∷◌, Result, length}
+use Rattle.refusal.specs.Told.{Told, accepted}
+use Rattle.refusal.specs.Refusal.{told}
+use Rattle.refusal.specs.declared.Refusal.{Refusal}
 use Rattle.trace.specs.declared.RecordHeader.{RecordHeader}
 use Rattle.trace.specs.Outcome.{Lent}
 use Rattle.trace.specs.Counts.{wires}
@@ -15,6 +17,10 @@ pub record Held (h : RecordHeader) (b : Lent) : Type 0 where
   pub held-values : 2 * record_wires h ≤ length b.values
   pub held-counts : record_wires h ≤ length b.counts
   pub held-nodes : record_cells h ≤ length b.nodes
+
+-- the place after numbers that were looked at, told as in an answer that has a number before the place
+abbrev pub left_off_told : Result ℕ Refusal → Told
+left_off_told = told (λ at. 0 ∷ at ∷ [])
 
 -- n wires that stand in bytes from a place on
 abbrev pub Wires : ℕ → List ℕ → ℕ → Type 0

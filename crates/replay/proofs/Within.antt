@@ -7,9 +7,9 @@ use mathlib.Core.Bool.{Bool, true, false}
 use mathlib.Core.List.{List, [], ◌∷◌}
 use native.Mathlib.Omega.{arith}
 use lib.ListN.{length, drop, length-drop}
-use Rattle.field.specs.Told.{accepted, refused}
+use Rattle.refusal.specs.Told.{accepted, refused}
 use Rattle.field.proofs.Cases.{below?}
-use Rattle.field.proofs.Tellings.{clash}
+use Rattle.refusal.proofs.Tellings.{clash}
 use Rattle.numbers.specs.Form.{Found, found, cut_off, not_shortest, under, width_of, ill_formed, find_from}
 use Rattle.numbers.specs.Answer.{found_at, read_answer, write_answer}
 use Rattle.numbers.proofs.Finding.{find_end, find_ill, find_last, find_more}

@@ -1,7 +1,7 @@
 // Standard input, a number at a time.
 ghost use Rattle.std.specs.Prelude.{◌≤◌, length};
 
-use crate::reads::read_full;
+use reads::read_full;
 use numbers::ReadAnswer;
 use std::io;
 use std::io::Read;

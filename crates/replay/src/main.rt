@@ -10,7 +10,6 @@ mod groups;
 mod input;
 mod instructions;
 mod lists;
-mod reads;
 mod records;
 mod say;
 mod steps;

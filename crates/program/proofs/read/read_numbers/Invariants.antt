@@ -9,6 +9,3 @@ use Rattle.program.proofs.read.read_numbers.Given as goal
 abbrev pub invariant-loop-i : goal.invariant-loop-i
 invariant-loop-i l =
     (numbers_answer (2 ^ 64) (l.n - l.i) l.input l.next ≡ numbers_answer (2 ^ 64) l.n l.input l.at) × Loading l.input l.at l.n l.initial.cells l.from l.cells l.next l.i
-
-abbrev pub decreases-loop-i : goal.decreases-loop-i
-decreases-loop-i l = l.n - l.i
