@@ -1,8 +1,11 @@
 // The text of numbers, and of a refusal. Each function answers the place after what it wrote.
 ghost use Rattle.std.specs.Prelude.{◌≡◌, ◌+◌, ◌*◌, ◌≤◌, ◌<◌, length};
 ghost use Rattle.std.proofs.lemmas.List.Edits.{sets};
+ghost use Rattle.refusal.specs.Refusal.{number_of};
 ghost use Rattle.program.specs.Text.{decimal, behind, lines};
 ghost use Rattle.program.specs.Answer.{most_text, refuse_text};
+
+use refusal::Refusal;
 
 // The digit 0, what stands between the numbers of a line, and its end.
 const ZERO: u8 = b'0';
@@ -63,12 +66,12 @@ pub fn put_lines(cells: &[u64], width: usize, out: &mut [u8], at: usize) -> usiz
 }
 
 // It writes "refuse" and the number.
-pub fn put_refusal(number: u32, out: &mut [u8]) -> usize
+pub fn put_refusal(refusal: Refusal, out: &mut [u8]) -> usize
     requires { most_text ≤ length out.old }
-    ensures value { result ≡ length (refuse_text number) }
-    ensures out_after { out.new ≡ sets out.old 0 (refuse_text number) }
+    ensures value { result ≡ length (refuse_text (number_of refusal)) }
+    ensures out_after { out.new ≡ sets out.old 0 (refuse_text (number_of refusal)) }
 {
-    let numbers = [number as u64];
+    let numbers = [u64::from(refusal.number())];
     let at = put_word(b"refuse ", out);
     put_lines(&numbers, 1, out, at)
 }

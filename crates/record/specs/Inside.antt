@@ -18,10 +18,6 @@ pub record Held (h : RecordHeader) (b : Lent) : Type 0 where
   pub held-counts : record_wires h ≤ length b.counts
   pub held-nodes : record_cells h ≤ length b.nodes
 
--- the place after numbers that were looked at, told as in an answer that has a number before the place
-abbrev pub left_off_told : Result ℕ Refusal → Told
-left_off_told = told (λ at. 0 ∷ at ∷ [])
-
 -- n wires that stand in bytes from a place on
 abbrev pub Wires : ℕ → List ℕ → ℕ → Type 0
 Wires n s at = wires_answer n s at ≡ accepted (0 ∷ after (3 * n) s at ∷ [])

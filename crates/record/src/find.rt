@@ -5,9 +5,8 @@ ghost use Rattle.std.specs.Prelude.{◌≡◌, ◌≤◌, ◌<◌, []};
 ghost use Rattle.refusal.specs.Told.{accepted, or_else};
 ghost use Rattle.numbers.specs.Answer.{read_told};
 ghost use Rattle.trace.specs.Record.{tested_told};
-ghost use Rattle.record.specs.Numbers.{numbers_answer};
+ghost use Rattle.record.specs.Numbers.{left_off_told, numbers_answer};
 ghost use Rattle.record.specs.Reading.{head_answer, wires_answer, wire_list_answer, declared_answer, nodes_answer, end_answer, fields_answer};
-ghost use Rattle.record.specs.Inside.{left_off_told};
 
 use field::P;
 use numbers::{read, read_below};
