@@ -4,14 +4,13 @@ use Prim.Native.Nat.{ℕ, ◌^◌}
 use mathlib.Core.Path.{◌≡◌, refl, sym, ap, ap₂, ◌∙◌}
 use mathlib.Core.List.{List, [], ◌∷◌}
 use native.Mathlib.Omega.{arith}
-use lib.ListN.{length, get_or, set}
-use lib.Seq.{sets}
+use lib.ListN.{get_or}
 use Rattle.refusal.specs.Told.{accepted, refused}
 use Rattle.numbers.specs.Answer.{read_below_answer}
 use Rattle.numbers.proofs.Below.{below_is_read}
 use Rattle.record.specs.Numbers.{number_at, next_at, after, numbers_from, numbers_answer}
 use Rattle.record.proofs.Ways.{goes_on, stops, passed}
-use Rattle.record.proofs.Places.{number_is, next_is, after_add, length_from}
+use Rattle.record.proofs.Places.{number_is, next_is, after_add}
 use Rattle.record.proofs.Numbers.{numbers_on, numbers_off, numbers_end, place_after}
 use Rattle.program.specs.declared.read.Head.{Head}
 use Rattle.program.specs.Inside.{head_numbers}

@@ -1,7 +1,7 @@
 -- What the private functions promise each other. No public contract cites this file.
 -- Assumes nothing.
 use Rattle.std.specs.Prelude.{◌≡◌, ℕ, ◌≤◌, List, [], ◌∷◌, length, replicate}
-use Rattle.refusal.specs.Told.{Told, accepted}
+use Rattle.refusal.specs.Told.{accepted}
 use Rattle.trace.specs.declared.RecordHeader.{RecordHeader}
 use Rattle.trace.specs.Outcome.{Lent}
 use Rattle.trace.specs.Record.{record_wires}

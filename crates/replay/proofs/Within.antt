@@ -19,9 +19,9 @@ not_found : {A : Type 0} {number place v m : ℕ} {f : Found} → found_at 0 f �
 not_found q e = clash (sym q ∙ ap (found_at 0) e)
 
 -- a number takes bytes that are there
-found-within : (n : ℕ) (s : List ℕ) (v m : ℕ) → find_from n s ≡ found v m → m ≤ length s
-found-within n [] v m e = not_found refl (sym (find_end n) ∙ e)
-found-within n (b ∷ s) v m e = go (found-within (suc n) s) (ill_formed n b) refl
+found_within : (n : ℕ) (s : List ℕ) (v m : ℕ) → find_from n s ≡ found v m → m ≤ length s
+found_within n [] v m e = not_found refl (sym (find_end n) ∙ e)
+found_within n (b ∷ s) v m e = go (found_within (suc n) s) (ill_formed n b) refl
   where
     more : ((w k : ℕ) → find_from (suc n) s ≡ found w k → k ≤ length s) → (g : Found) → find_from (suc n) s ≡ g → under b g ≡ found v m → m ≤ suc (length s)
     more ih (found w k) q u =
@@ -40,21 +40,21 @@ found-within n (b ∷ s) v m e = go (found-within (suc n) s) (ill_formed n b) re
         (below? b 128)
 
 -- what is read ends where the bytes end or before
-pub read-within : (s : List ℕ) (at v next : ℕ) → at ≤ length s → accepted (v ∷ next ∷ []) ≡ read_answer s at → next ≤ length s
+pub read_within : (s : List ℕ) (at v next : ℕ) → at ≤ length s → accepted (v ∷ next ∷ []) ≡ read_answer s at → next ≤ length s
 unfolding read_answer
-read-within s at v next h e = go (find_from 0 (drop at s)) refl e
+read_within s at v next h e = go (find_from 0 (drop at s)) refl e
   where
     go : (g : Found) → find_from 0 (drop at s) ≡ g → accepted (v ∷ next ∷ []) ≡ found_at at g → next ≤ length s
     go (found w m) q u =
-        let i = found-within 0 (drop at s) w m q in
+        let i = found_within 0 (drop at s) w m q in
         let j : next ≡ at + m = cc in
         omega (arith, i, j, length-drop at s)
     go cut_off q u = clash (sym u)
     go not_shortest q u = clash (sym u)
 
 -- where a number is written, there is room for it
-pub written-within : (v : ℕ) (out : List ℕ) (at next : ℕ) → accepted (next ∷ []) ≡ write_answer v out at → next ≤ length out
-written-within v out at next e =
+pub written_within : (v : ℕ) (out : List ℕ) (at next : ℕ) → accepted (next ∷ []) ≡ write_answer v out at → next ≤ length out
+written_within v out at next e =
     ⊎_elim
     (λ l. clash (sym (e ∙ no_room_answer v out at l)))
     (λ l. let u : accepted (next ∷ []) ≡ accepted ((at + width_of v) ∷ []) = e ∙ room_answer v out at l in let j : next ≡ at + width_of v = cc in omega (arith, j))

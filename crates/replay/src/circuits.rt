@@ -2,9 +2,8 @@
 use crate::buffers::Buffers;
 use crate::cells::Cell;
 use crate::instructions::Unknown;
-use crate::{say, steps};
+use crate::say;
 use eval_circuit::eval_circuit;
-use rows::FillAnswer;
 use std::io;
 use trace::{CircuitEvaluation, RecordHeader};
 
@@ -51,13 +50,6 @@ pub fn header_of(ctx: u64, clk: u64, num_read: u64, num_eval: u64, id_next: u64)
     }
 }
 
-fn filled(rt: &impl Print, answer: FillAnswer) -> io::Result<()> {
-    match answer {
-        FillAnswer::Filled => say::accepted(rt, &[]),
-        FillAnswer::Refused(refusal, place) => say::refused(rt, refusal, place),
-    }
-}
-
 pub fn answer(
     rt: &impl Print,
     call: CircuitCall,
@@ -79,18 +71,19 @@ pub fn answer(
             ptr,
             num_vars,
             num_eval,
-        } => steps::told(
-            rt,
-            eval_circuit(
+        } => {
+            let evaluated = eval_circuit(
                 ctx, clk, ptr, num_vars, num_eval, memory, values, counts, nodes,
-            ),
-        ),
-        CircuitCall::Fill(header, offset) => {
-            filled(rt, rows::fill(header, values, counts, nodes, offset, rows))
+            );
+            say::answer(rt, evaluated.map(say::header_numbers))
         }
-        CircuitCall::FillState(offset) => filled(
-            rt,
-            rows::fill_state(state, values, counts, nodes, offset, rows),
-        ),
+        CircuitCall::Fill(header, offset) => {
+            let filled = rows::fill(header, values, counts, nodes, offset, rows);
+            say::answer(rt, filled.map(|()| []))
+        }
+        CircuitCall::FillState(offset) => {
+            let filled = rows::fill_state(state, values, counts, nodes, offset, rows);
+            say::answer(rt, filled.map(|()| []))
+        }
     }
 }

@@ -1,10 +1,9 @@
 // Calls of the field, of pairs and of decoding.
 use crate::instructions::Unknown;
 use crate::say;
-use field::felt::FeltAnswer;
-use field::quad::QuadAnswer;
 use field::{felt, quad};
-use instruction::{DecodeAnswer, Op, decode_instruction};
+use instruction::decode_instruction;
+use refusal::Refusal;
 use std::io;
 
 #[derive(Clone, Copy, Debug, PartialEq, Eq)]
@@ -47,7 +46,7 @@ impl ElementCall {
     }
 }
 
-fn felt_answer(op: Operation, a: u64, b: u64) -> FeltAnswer {
+fn felt_answer(op: Operation, a: u64, b: u64) -> Result<u64, Refusal> {
     match op {
         Operation::Add => felt::add(a, b),
         Operation::Sub => felt::sub(a, b),
@@ -56,7 +55,7 @@ fn felt_answer(op: Operation, a: u64, b: u64) -> FeltAnswer {
 }
 
 // No generic of both: it would be passed the three functions, as they are named here.
-fn quad_answer(op: Operation, a: [u64; 2], b: [u64; 2]) -> QuadAnswer {
+fn quad_answer(op: Operation, a: [u64; 2], b: [u64; 2]) -> Result<[u64; 2], Refusal> {
     match op {
         Operation::Add => quad::add(a, b),
         Operation::Sub => quad::sub(a, b),
@@ -64,29 +63,13 @@ fn quad_answer(op: Operation, a: [u64; 2], b: [u64; 2]) -> QuadAnswer {
     }
 }
 
-fn number_of(op: Op) -> u64 {
-    match op {
-        Op::Sub => 0,
-        Op::Mul => 1,
-        Op::Add => 2,
-    }
-}
-
 pub fn answer(rt: &impl Print, call: ElementCall) -> io::Result<()> {
     match call {
-        ElementCall::Felt(op, a, b) => match felt_answer(op, a, b) {
-            FeltAnswer::Value(v) => say::accepted(rt, &[v]),
-            FeltAnswer::Refused(refusal, place) => say::refused(rt, refusal, place),
-        },
-        ElementCall::Quad(op, a, b) => match quad_answer(op, a, b) {
-            QuadAnswer::Value(v0, v1) => say::accepted(rt, &[v0, v1]),
-            QuadAnswer::Refused(refusal, place) => say::refused(rt, refusal, place),
-        },
-        ElementCall::Decode(v) => match decode_instruction(v) {
-            DecodeAnswer::Instruction(left, right, op) => {
-                say::accepted(rt, &[left as u64, right as u64, number_of(op)])
-            }
-            DecodeAnswer::Refused(refusal, place) => say::refused(rt, refusal, place),
-        },
+        ElementCall::Felt(op, a, b) => say::answer(rt, felt_answer(op, a, b).map(|v| [v])),
+        ElementCall::Quad(op, a, b) => say::answer(rt, quad_answer(op, a, b)),
+        ElementCall::Decode(v) => say::answer(
+            rt,
+            decode_instruction(v).map(|(left, right, op)| [left.into(), right.into(), op as u64]),
+        ),
     }
 }

@@ -1,7 +1,6 @@
 // Calls of the seven-bit numbers, over the lent bytes.
 use crate::instructions::Unknown;
 use crate::say;
-use numbers::{ReadAnswer, WriteAnswer};
 use std::io;
 
 #[derive(Clone, Copy)]
@@ -24,25 +23,20 @@ impl NumberCall {
     }
 }
 
-pub fn written(rt: &impl Print, answer: WriteAnswer) -> io::Result<()> {
-    match answer {
-        WriteAnswer::Next(next) => say::accepted(rt, &[next as u64]),
-        WriteAnswer::Refused(refusal, place) => say::refused(rt, refusal, place),
-    }
-}
-
-fn found(rt: &impl Print, answer: ReadAnswer) -> io::Result<()> {
-    match answer {
-        ReadAnswer::Number(value, next) => say::accepted(rt, &[value, next as u64]),
-        ReadAnswer::Refused(refusal, place) => say::refused(rt, refusal, place),
-    }
+fn found_numbers((value, next): (u64, usize)) -> [u64; 2] {
+    [value, next as u64]
 }
 
 pub fn answer(rt: &impl Print, call: NumberCall, bytes: &mut [u8]) -> io::Result<()> {
     match call {
-        NumberCall::Width(v) => say::accepted(rt, &[numbers::width(v) as u64]),
-        NumberCall::Write(v, at) => written(rt, numbers::write(v, bytes, at)),
-        NumberCall::Read(at) => found(rt, numbers::read(bytes, at)),
-        NumberCall::ReadBelow(at, bound) => found(rt, numbers::read_below(bytes, at, bound)),
+        NumberCall::Width(v) => say::answer(rt, Ok([numbers::width(v) as u64])),
+        NumberCall::Write(v, at) => {
+            say::answer(rt, numbers::write(v, bytes, at).map(|next| [next as u64]))
+        }
+        NumberCall::Read(at) => say::answer(rt, numbers::read(bytes, at).map(found_numbers)),
+        NumberCall::ReadBelow(at, bound) => say::answer(
+            rt,
+            numbers::read_below(bytes, at, bound).map(found_numbers),
+        ),
     }
 }

@@ -2,7 +2,6 @@
 ghost use Rattle.std.specs.Prelude.{◌≤◌, length};
 
 use reads::read_full;
-use numbers::ReadAnswer;
 use std::io;
 use std::io::Read;
 
@@ -39,13 +38,11 @@ impl<'a, R: Read> Input<'a, R> {
     // None where no further number can be read.
     pub fn number(&mut self) -> io::Result<Option<u64>> {
         self.fill()?;
-        match numbers::read(&self.bytes[..self.end], self.start) {
-            ReadAnswer::Number(number, next) => {
-                self.start = next;
-                Ok(Some(number))
-            }
-            ReadAnswer::Refused(_, _) => Ok(None),
-        }
+        let Ok((number, next)) = numbers::read(&self.bytes[..self.end], self.start) else {
+            return Ok(None);
+        };
+        self.start = next;
+        Ok(Some(number))
     }
 
     // Reads on until the whole of the next number is there, if the input has it.

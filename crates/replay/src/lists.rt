@@ -2,7 +2,7 @@
 use crate::cells::Cell;
 use crate::instructions::Unknown;
 use crate::say;
-use runs::{Ace, AddAnswer, Entry, RowsAnswer};
+use runs::{Ace, Entry};
 use std::io;
 
 #[derive(Clone, Copy)]
@@ -54,23 +54,6 @@ fn say_list(rt: &impl Print, list: &Ace) -> io::Result<()> {
     Ok(())
 }
 
-fn add(rt: &impl Print, entry: Entry, list: &mut Ace) -> io::Result<()> {
-    let outcome = list.add_circuit_evaluation(entry);
-    match outcome.answer {
-        AddAnswer::Added => say::accepted(rt, &[])?,
-        AddAnswer::Refused(refusal, place) => say::refused(rt, refusal, place)?,
-    }
-    *list = outcome.list;
-    say_list(rt, list)
-}
-
-fn told(rt: &impl Print, answer: RowsAnswer) -> io::Result<()> {
-    match answer {
-        RowsAnswer::Rows(rows) => say::accepted(rt, &[rows]),
-        RowsAnswer::Refused(refusal, place) => say::refused(rt, refusal, place),
-    }
-}
-
 pub fn answer(rt: &impl Print, call: ListCall, list: &mut Ace) -> io::Result<()> {
     match call {
         ListCall::SetEntry(i, entry) => {
@@ -83,8 +66,11 @@ pub fn answer(rt: &impl Print, call: ListCall, list: &mut Ace) -> io::Result<()>
             list.len = len;
             Ok(())
         }
-        ListCall::Add(entry) => add(rt, entry, list),
-        ListCall::TraceLen => told(rt, list.trace_len()),
-        ListCall::FirstRow(clk) => told(rt, list.first_row(clk)),
+        ListCall::Add(entry) => {
+            say::answer(rt, list.add_circuit_evaluation(entry).map(|()| []))?;
+            say_list(rt, list)
+        }
+        ListCall::TraceLen => say::answer(rt, list.trace_len().map(|rows| [rows])),
+        ListCall::FirstRow(clk) => say::answer(rt, list.first_row(clk).map(|rows| [rows])),
     }
 }

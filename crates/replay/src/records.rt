@@ -2,9 +2,9 @@
 use crate::buffers::Buffers;
 use crate::circuits::header_of;
 use crate::instructions::Unknown;
-use crate::{groups, say};
+use crate::say;
 use std::io;
-use trace::{CircuitEvaluation, HeaderAnswer, RecordHeader};
+use trace::{CircuitEvaluation, RecordHeader};
 
 #[derive(Clone, Copy)]
 pub enum RecordCall {
@@ -26,13 +26,6 @@ impl RecordCall {
     }
 }
 
-fn told(rt: &impl Print, answer: HeaderAnswer) -> io::Result<()> {
-    match answer {
-        HeaderAnswer::Header(header) => say::header(rt, header),
-        HeaderAnswer::Refused(refusal, place) => say::refused(rt, refusal, place),
-    }
-}
-
 pub fn answer(
     rt: &impl Print,
     call: RecordCall,
@@ -48,12 +41,16 @@ pub fn answer(
     } = lent;
     match call {
         RecordCall::Write(header) => {
-            groups::written(rt, record::write_into(header, values, counts, nodes, bytes))
+            let written = record::write_into(header, values, counts, nodes, bytes);
+            say::answer(rt, written.map(|len| [len as u64]))
         }
-        RecordCall::WriteState => groups::written(
-            rt,
-            record::write_state_into(state, values, counts, nodes, bytes),
-        ),
-        RecordCall::Read => told(rt, record::read_from(bytes, values, counts, nodes)),
+        RecordCall::WriteState => {
+            let written = record::write_state_into(state, values, counts, nodes, bytes);
+            say::answer(rt, written.map(|len| [len as u64]))
+        }
+        RecordCall::Read => {
+            let read = record::read_from(bytes, values, counts, nodes);
+            say::answer(rt, read.map(say::header_numbers))
+        }
     }
 }

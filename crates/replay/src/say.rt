@@ -2,7 +2,7 @@
 ghost use Rattle.std.specs.Prelude.{◌≤◌, length};
 
 use crate::input::LONGEST;
-use numbers::WriteAnswer;
+use refusal::Refusal;
 use std::io;
 use trace::{CircuitEvaluation, RecordHeader};
 
@@ -10,12 +10,13 @@ use trace::{CircuitEvaluation, RecordHeader};
 const NUMBERS: usize = 400;
 
 // No Display: groups of seven bits are no text.
+#[tactic(auto, using(crate::proofs::Within::written_within))]
 pub fn numbers<T: Copy + Into<u64>>(rt: &impl Print, numbers: &[T]) -> io::Result<()> {
     for chunk in numbers.chunks(NUMBERS) {
         let mut bytes = [0; NUMBERS * LONGEST];
         let mut used = 0;
         for number in chunk {
-            let WriteAnswer::Next(next) = numbers::write((*number).into(), &mut bytes, used) else {
+            let Ok(next) = numbers::write((*number).into(), &mut bytes, used) else {
                 break;
             };
             used = next;
@@ -30,39 +31,39 @@ pub fn unknown(rt: &impl Print) -> io::Result<()> {
     numbers(rt, &[255u64])
 }
 
-pub fn accepted(rt: &impl Print, values: &[u64]) -> io::Result<()> {
-    numbers(rt, &[0u64])?;
-    numbers(rt, values)
+// "An answer is 0 and its values, or the refusal's number and its place."
+pub fn answer<const N: usize>(
+    rt: &impl Print,
+    answer: Result<[u64; N], Refusal>,
+) -> io::Result<()> {
+    match answer {
+        Ok(values) => {
+            numbers(rt, &[0u64])?;
+            numbers(rt, &values)
+        }
+        Err(refusal) => numbers(rt, &[refusal.number().into(), refusal.place()]),
+    }
 }
 
-pub fn refused(rt: &impl Print, refusal: u32, place: u64) -> io::Result<()> {
-    numbers(rt, &[refusal.into(), place])
+pub fn header_numbers(header: RecordHeader) -> [u64; 5] {
+    [
+        header.ctx.into(),
+        header.clk.into(),
+        header.num_read.into(),
+        header.num_eval.into(),
+        header.id_next,
+    ]
 }
 
-pub fn header(rt: &impl Print, header: RecordHeader) -> io::Result<()> {
-    accepted(
-        rt,
-        &[
-            header.ctx.into(),
-            header.clk.into(),
-            header.num_read.into(),
-            header.num_eval.into(),
-            header.id_next,
-        ],
-    )
-}
-
-pub fn state(rt: &impl Print, state: CircuitEvaluation) -> io::Result<()> {
-    numbers(
-        rt,
-        &[
-            state.ctx.into(),
-            state.clk.into(),
-            state.num_read.into(),
-            state.num_eval.into(),
-            state.reads_done.into(),
-            state.evals_done.into(),
-            state.id_next,
-        ],
-    )
+// "A state is its seven numbers, in the order of instruction 3."
+pub fn state_numbers(state: CircuitEvaluation) -> [u64; 7] {
+    [
+        state.ctx.into(),
+        state.clk.into(),
+        state.num_read.into(),
+        state.num_eval.into(),
+        state.reads_done.into(),
+        state.evals_done.into(),
+        state.id_next,
+    ]
 }

@@ -3,8 +3,9 @@ use crate::buffers::Buffers;
 use crate::cells::Cell;
 use crate::instructions::Unknown;
 use crate::say;
+use refusal::Refusal;
 use std::io;
-use trace::{CircuitEvaluation, OpenAnswer, OutputAnswer, StepAnswer};
+use trace::{CircuitEvaluation, RefusedStep};
 
 #[derive(Clone, Copy)]
 pub enum StepCall {
@@ -72,37 +73,18 @@ pub fn nothing() -> CircuitEvaluation {
     }
 }
 
-// A refused opening gives no state, and the one before stays.
-fn opened(rt: &impl Print, answer: OpenAnswer, state: &mut CircuitEvaluation) -> io::Result<()> {
-    match answer {
-        OpenAnswer::Opened(opened) => {
-            *state = opened;
-            say::accepted(rt, &[])?;
-            say::state(rt, opened)
-        }
-        OpenAnswer::Refused(refusal, place) => say::refused(rt, refusal, place),
-    }
-}
-
-fn stepped(rt: &impl Print, answer: StepAnswer, state: &mut CircuitEvaluation) -> io::Result<()> {
-    match answer {
-        StepAnswer::Done(after) => {
-            *state = after;
-            say::accepted(rt, &[])?;
-        }
-        StepAnswer::Refused(after, refusal, place) => {
-            *state = after;
-            say::refused(rt, refusal, place)?;
-        }
-    }
-    say::state(rt, *state)
-}
-
-pub fn told(rt: &impl Print, answer: OutputAnswer) -> io::Result<()> {
-    match answer {
-        OutputAnswer::Zero(header) => say::header(rt, header),
-        OutputAnswer::Refused(refusal, place) => say::refused(rt, refusal, place),
-    }
+// "After the answer, whatever it is, the state that came back."
+fn stepped(
+    rt: &impl Print,
+    outcome: Result<CircuitEvaluation, RefusedStep>,
+    state: &mut CircuitEvaluation,
+) -> io::Result<()> {
+    *state = match outcome {
+        Ok(after) => after,
+        Err(refused) => refused.state,
+    };
+    say::answer(rt, outcome.map(|_| []).map_err(Refusal::from))?;
+    say::numbers(rt, &say::state_numbers(*state))
 }
 
 pub fn answer(
@@ -123,21 +105,27 @@ pub fn answer(
             clk,
             num_read,
             num_eval,
-        } => opened(
-            rt,
-            CircuitEvaluation::new(ctx, clk, num_read, num_eval, values, counts, nodes),
-            state,
-        ),
+        } => {
+            let opened = CircuitEvaluation::new(
+                ctx, clk, num_read, num_eval, values, counts, nodes,
+            );
+            // A refused opening gives no state, and the one before stays.
+            if let Ok(opened) = opened {
+                *state = opened;
+            }
+            say::answer(rt, opened.map(say::state_numbers))
+        }
         StepCall::Read(ptr, word) => {
-            stepped(rt, state.do_read(ptr, word, values, counts, nodes), state)
+            let outcome = state.do_read(ptr, word, values, counts, nodes);
+            stepped(rt, outcome, state)
         }
         StepCall::Eval(ptr, instruction) => {
-            stepped(
-                rt,
-                state.do_eval(ptr, instruction, values, counts, nodes),
-                state,
-            )
+            let outcome = state.do_eval(ptr, instruction, values, counts, nodes);
+            stepped(rt, outcome, state)
         }
-        StepCall::Output => told(rt, state.output_value(values, counts, nodes)),
+        StepCall::Output => {
+            let output = state.output_value(values, counts, nodes);
+            say::answer(rt, output.map(say::header_numbers))
+        }
     }
 }

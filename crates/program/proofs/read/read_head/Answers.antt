@@ -1,6 +1,6 @@
 -- `program::read::read_head` meets its contract.
 -- Assumes nothing.
-use Rattle.std.proofs.Common.{[], ◌∷◌, sym, ap, ◌∙◌}
+use Rattle.std.proofs.Common.{[], ◌∷◌, sym, ◌∙◌}
 use Rattle.refusal.proofs.Passing.{told_up}
 use Rattle.numbers.proofs.Below.{below_is_read}
 use Rattle.program.proofs.Heads.{ctx_off, clk_off, head_rest, head_stored}

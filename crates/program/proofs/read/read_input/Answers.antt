@@ -1,10 +1,7 @@
 -- `program::read::read_input` meets its contract.
 -- Assumes nothing.
-use Rattle.std.proofs.Common.{ℕ, [], ◌∷◌, sym, ◌∙◌}
+use Rattle.std.proofs.Common.{sym, ◌∙◌}
 use Rattle.refusal.proofs.Passing.{told_up}
-use Rattle.record.specs.Numbers.{after}
-use Rattle.program.specs.declared.read.Head.{Head}
-use Rattle.program.specs.Input.{cells_in, cells_at}
 use Rattle.program.proofs.Heads.{cells_at_lem, vars_are, evals_are, cells_are}
 use Rattle.program.proofs.Inputs.{head_off, input_cells_off, input_over, input_end, memory-stored}
 use Rattle.program.proofs.read.read_input.Goals as goal

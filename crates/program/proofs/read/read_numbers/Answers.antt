@@ -3,7 +3,7 @@
 use Prim.Native.Nat.{ℕ, ◌^◌}
 use native.Mathlib.Nat.{sub-zero}
 use Rattle.record.specs.Numbers.{numbers_answer}
-use Rattle.std.proofs.Common.{[], ◌∷◌, refl, sym, ap, ◌∙◌, arith, rules}
+use Rattle.std.proofs.Common.{[], ◌∷◌, sym, ap, ◌∙◌, arith, rules}
 use Rattle.std.proofs.lemmas.Grind.{common_steps}
 use Rattle.refusal.proofs.Passing.{told_up}
 use Rattle.numbers.proofs.Below.{below_accepted, below_refused}
