@@ -87,7 +87,10 @@ pub fn records(rt: &impl Print) -> io::Result<()> {
     };
     let short = Lengths { nodes: 17, ..EXACT };
     write_over(rt, "6 ahead of 17", no_element, short, BUFFERS, 52)?;
-    write_over(rt, "id_next p", no_element, EXACT, BUFFERS, 52)?;
+    write_over(rt, "id_next p", no_element, EXACT, BUFFERS, 52)
+}
+
+pub fn cells(rt: &impl Print) -> io::Result<()> {
     changed(
         rt,
         "a used value cell is p",

@@ -135,7 +135,10 @@ pub fn records_refused(rt: &impl Print) -> io::Result<()> {
     };
     let short = Lengths { nodes: 17, ..EXACT };
     fill_over(rt, "6 ahead of 17", no_element, short, BUFFERS, 0, 32)?;
-    fill_over(rt, "id_next p", no_element, EXACT, BUFFERS, 0, 32)?;
+    fill_over(rt, "id_next p", no_element, EXACT, BUFFERS, 0, 32)
+}
+
+pub fn cells(rt: &impl Print) -> io::Result<()> {
     changed(
         rt,
         "a used value cell is p",
