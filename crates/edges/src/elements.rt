@@ -1,10 +1,9 @@
 // Elements and pairs: "Public calls of parts 1 to 3 refuse 7 where a number handed in is p or more,
 // giving its place among them, from 0".
-use field::felt::FeltAnswer;
-use field::quad::QuadAnswer;
 use field::{P, felt, quad};
-use std::io;
-use telling::answers::{Answer, Refused};
+use refusal::Refusal;
+use std::{fmt, io};
+use telling::answers::Answer;
 use telling::lists::Numbers;
 
 const FELT_SUMS: &[(&str, u64, u64)] = &[
@@ -65,42 +64,34 @@ const QUAD_PRODUCTS: &[(&str, [u64; 2], [u64; 2])] = &[
     ("p as b1", [0, 0], [0, P]),
 ];
 
-fn element(answer: FeltAnswer) -> Answer<Numbers<1>> {
-    Answer(match answer {
-        FeltAnswer::Value(value) => Ok(Numbers([value])),
-        FeltAnswer::Refused(number, place) => Err(Refused { number, place }),
-    })
-}
-
-fn pair(answer: QuadAnswer) -> Answer<Numbers<2>> {
-    Answer(match answer {
-        QuadAnswer::Value(v_0, v_1) => Ok(Numbers([v_0, v_1])),
-        QuadAnswer::Refused(number, place) => Err(Refused { number, place }),
-    })
+fn tell<T: Copy, V: Copy + fmt::Display, F: Fn(T, T) -> Result<V, Refusal>>(
+    rt: &impl Print,
+    call: &str,
+    cases: &[(&str, T, T)],
+    operation: F,
+) -> io::Result<()>
+    requires { F.IsAlwaysCallable operation }
+{
+    for &(case, a, b) in cases {
+        println!(rt; "{call}: {case} = {}", Answer(operation(a, b)))?;
+    }
+    Ok(())
 }
 
 pub fn felts(rt: &impl Print) -> io::Result<()> {
-    for &(case, a, b) in FELT_SUMS {
-        println!(rt; "felt::add: {case} = {}", element(felt::add(a, b)))?;
-    }
-    for &(case, a, b) in FELT_DIFFERENCES {
-        println!(rt; "felt::sub: {case} = {}", element(felt::sub(a, b)))?;
-    }
-    for &(case, a, b) in FELT_PRODUCTS {
-        println!(rt; "felt::mul: {case} = {}", element(felt::mul(a, b)))?;
-    }
-    Ok(())
+    let add = |a, b| felt::add(a, b).map(|v| Numbers([v]));
+    tell(rt, "felt::add", FELT_SUMS, add)?;
+    let sub = |a, b| felt::sub(a, b).map(|v| Numbers([v]));
+    tell(rt, "felt::sub", FELT_DIFFERENCES, sub)?;
+    let mul = |a, b| felt::mul(a, b).map(|v| Numbers([v]));
+    tell(rt, "felt::mul", FELT_PRODUCTS, mul)
 }
 
 pub fn quads(rt: &impl Print) -> io::Result<()> {
-    for &(case, a, b) in QUAD_SUMS {
-        println!(rt; "quad::add: {case} = {}", pair(quad::add(a, b)))?;
-    }
-    for &(case, a, b) in QUAD_DIFFERENCES {
-        println!(rt; "quad::sub: {case} = {}", pair(quad::sub(a, b)))?;
-    }
-    for &(case, a, b) in QUAD_PRODUCTS {
-        println!(rt; "quad::mul: {case} = {}", pair(quad::mul(a, b)))?;
-    }
-    Ok(())
+    let add = |a, b| quad::add(a, b).map(Numbers);
+    tell(rt, "quad::add", QUAD_SUMS, add)?;
+    let sub = |a, b| quad::sub(a, b).map(Numbers);
+    tell(rt, "quad::sub", QUAD_DIFFERENCES, sub)?;
+    let mul = |a, b| quad::mul(a, b).map(Numbers);
+    tell(rt, "quad::mul", QUAD_PRODUCTS, mul)
 }

@@ -1,9 +1,9 @@
 // Decode: "0 Sub, 1 Mul, 2 Add, 3 to 15 refused." An accepted word's answer is its left id, its right
 // id and its opcode.
 use field::P;
-use instruction::{DecodeAnswer, Op, decode_instruction};
+use instruction::decode_instruction;
 use std::io;
-use telling::answers::{Answer, Refused};
+use telling::answers::Answer;
 use telling::lists::Numbers;
 
 const WORDS: &[(&str, u64)] = &[
@@ -21,29 +21,14 @@ const WORDS: &[(&str, u64)] = &[
     ("the largest u64", u64::MAX),
 ];
 
-fn opcode(op: Op) -> u64 {
-    match op {
-        Op::Sub => 0,
-        Op::Mul => 1,
-        Op::Add => 2,
-    }
-}
-
-fn decoded(answer: DecodeAnswer) -> Answer<Numbers<3>> {
-    Answer(match answer {
-        DecodeAnswer::Instruction(id_l, id_r, op) => {
-            Ok(Numbers([id_l as u64, id_r as u64, opcode(op)]))
-        }
-        DecodeAnswer::Refused(number, place) => Err(Refused { number, place }),
-    })
-}
-
 pub fn words(rt: &impl Print) -> io::Result<()> {
     for &(case, word) in WORDS {
-        println!(rt;
-            "decode_instruction: {case} = {}",
-            decoded(decode_instruction(word))
-        )?;
+        let answer = decode_instruction(word).map(|(id_l, id_r, op)| Numbers([
+            id_l as u64,
+            id_r as u64,
+            op as u64,
+        ]));
+        println!(rt; "decode_instruction: {case} = {}", Answer(answer))?;
     }
     Ok(())
 }

@@ -1,9 +1,9 @@
 // Numbers as bytes: writing, reading, and reading below a bound. What is lent for output is the
 // first of twelve bytes ee, which are told whole after the answer.
 use field::P;
-use numbers::{ReadAnswer, WriteAnswer, read, read_below, write};
+use numbers::{read, read_below, write};
 use std::io;
-use telling::answers::{Answer, Refused};
+use telling::answers::Answer;
 use telling::lists::{Bytes, Numbers};
 
 // The number, how many bytes are lent, and the place in them.
@@ -87,24 +87,11 @@ const READING_BELOW: &[(&str, &[u8], usize, u64)] = &[
     ("a place past the end", b"\x05", 7, 128),
 ];
 
-fn written(answer: WriteAnswer) -> Answer<Numbers<1>> {
-    Answer(match answer {
-        WriteAnswer::Next(next) => Ok(Numbers([next as u64])),
-        WriteAnswer::Refused(number, place) => Err(Refused { number, place }),
-    })
-}
-
-fn found(answer: ReadAnswer) -> Answer<Numbers<2>> {
-    Answer(match answer {
-        ReadAnswer::Number(value, next) => Ok(Numbers([value, next as u64])),
-        ReadAnswer::Refused(number, place) => Err(Refused { number, place }),
-    })
-}
-
 pub fn writing(rt: &impl Print) -> io::Result<()> {
     for &(case, v, room, at) in WRITING {
         let mut out = [0xee; 12];
-        let answer = written(write(v, &mut out[..room.min(12)], at));
+        let next = write(v, &mut out[..room.min(12)], at);
+        let answer = Answer(next.map(|next| Numbers([next as u64])));
         println!(rt; "numbers::write: {case} = {answer}{}", Bytes(&out))?;
     }
     Ok(())
@@ -112,17 +99,16 @@ pub fn writing(rt: &impl Print) -> io::Result<()> {
 
 pub fn reading(rt: &impl Print) -> io::Result<()> {
     for &(case, s, at) in READING {
-        println!(rt; "numbers::read: {case} = {}", found(read(s, at)))?;
+        let answer = read(s, at).map(|(v, next)| Numbers([v, next as u64]));
+        println!(rt; "numbers::read: {case} = {}", Answer(answer))?;
     }
     Ok(())
 }
 
 pub fn reading_below(rt: &impl Print) -> io::Result<()> {
     for &(case, s, at, bound) in READING_BELOW {
-        println!(rt;
-            "numbers::read_below: {case} = {}",
-            found(read_below(s, at, bound))
-        )?;
+        let answer = read_below(s, at, bound).map(|(v, next)| Numbers([v, next as u64]));
+        println!(rt; "numbers::read_below: {case} = {}", Answer(answer))?;
     }
     Ok(())
 }

@@ -2,10 +2,9 @@
 // with the answer, and every cell of what was lent and of one or two more behind it.
 use eval_circuit::eval_circuit;
 use std::io;
-use telling::answers::{Answer, Header, Refused};
+use telling::answers::{Answer, Header};
 use telling::buffers::Lengths;
 use telling::listing::{EXACT, UNTOUCHED};
-use trace::OutputAnswer;
 
 #[derive(Clone, Copy)]
 pub struct Call {
@@ -51,9 +50,8 @@ pub fn evaluate(rt: &impl Print, case: &str, call: Call, memory: &[u64; 16]) -> 
         &mut buffers.counts[..call.lent.counts.min(7)],
         &mut buffers.nodes[..call.lent.nodes.min(52)],
     );
-    let answer = match output {
-        OutputAnswer::Zero(header) => Ok(Header(header)),
-        OutputAnswer::Refused(number, place) => Err(Refused { number, place }),
-    };
-    println!(rt; "eval_circuit: {case} = {}{buffers}", Answer(answer))
+    println!(rt;
+        "eval_circuit: {case} = {}{buffers}",
+        Answer(output.map(Header))
+    )
 }

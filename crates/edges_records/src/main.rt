@@ -8,6 +8,7 @@ use std::io;
 
 fn main(rt: HostRuntime) -> io::Result<()> {
     writing::records(&rt)?;
+    writing::cells(&rt)?;
     writing::from_states(&rt)?;
     reading::prefixes(&rt)?;
     reading::forms(&rt)?;

@@ -4,10 +4,9 @@
 // memory is lent.
 use record::read_from;
 use std::io;
-use telling::answers::{Answer, Header, Refused};
+use telling::answers::{Answer, Header};
 use telling::buffers::{Buffers, CANARY, COUNT_CANARY, Lengths};
 use telling::small::{EXACT, WHOLE};
-use trace::HeaderAnswer;
 
 // The small record. Its ctx stands at 0, clk at 1, id_next at 2, the wire list at 12, its wires at 13, 16
 // and 19, the declared count at 22, the READ list at 23, its node at 24, the EVAL list at 31 and its node
@@ -157,11 +156,10 @@ fn read(rt: &impl Print, case: &str, source: &[u8], lent: Lengths) -> io::Result
         &mut buffers.counts[..lent.counts.min(4)],
         &mut buffers.nodes[..lent.nodes.min(19)],
     );
-    let answer = match header {
-        HeaderAnswer::Header(header) => Ok(Header(header)),
-        HeaderAnswer::Refused(number, place) => Err(Refused { number, place }),
-    };
-    println!(rt; "read_from: {case} = {}{buffers}", Answer(answer))
+    println!(rt;
+        "read_from: {case} = {}{buffers}",
+        Answer(header.map(Header))
+    )
 }
 
 // The first `len` bytes of the small record, of which those from `at` on are the patch's.

@@ -1,23 +1,31 @@
 // Record writer: "21, 19, 6, 17 (a used value or node cell, or id_next, p or more), then" "writer 24".
 // Every byte of the room is told, and of what lies behind the lent part.
 use field::P;
-use numbers::WriteAnswer;
 use record::{write_into, write_state_into};
+use refusal::Refusal;
 use std::io;
-use telling::answers::{Answer, Refused};
+use telling::answers::Answer;
 use telling::buffers::{Buffers, Lengths};
 use telling::lists::{Bytes, Numbers};
 use telling::small::{BAD_COUNTS, BUFFERS, EXACT, FINISHED, HEADER, ONE_SHORT, STATES, WHOLE};
 use trace::{CircuitEvaluation, RecordHeader};
 
-fn written(answer: WriteAnswer) -> Answer<Numbers<1>> {
-    Answer(match answer {
-        WriteAnswer::Next(next) => Ok(Numbers([next as u64])),
-        WriteAnswer::Refused(number, place) => Err(Refused { number, place }),
-    })
+// Into the first `room` of 53 bytes.
+fn tell<F: FnOnce(&mut [u8]) -> Result<usize, Refusal>>(
+    rt: &impl Print,
+    call: &str,
+    case: &str,
+    room: usize,
+    write: F,
+) -> io::Result<()>
+    requires { F.IsAlwaysCallable write }
+{
+    let mut out = [0xee; 53];
+    let len = write(&mut out[..room.min(53)]);
+    let answer = Answer(len.map(|len| Numbers([len as u64])));
+    println!(rt; "{call}: {case} = {answer}{}", Bytes(&out))
 }
 
-// Into the first `room` of 53 bytes.
 fn write_over(
     rt: &impl Print,
     case: &str,
@@ -26,15 +34,15 @@ fn write_over(
     buffers: Buffers<7, 4, 19>,
     room: usize,
 ) -> io::Result<()> {
-    let mut out = [0xee; 53];
-    let answer = written(write_into(
-        header,
-        &buffers.values[..lent.values.min(7)],
-        &buffers.counts[..lent.counts.min(4)],
-        &buffers.nodes[..lent.nodes.min(19)],
-        &mut out[..room.min(53)],
-    ));
-    println!(rt; "write_into: {case} = {answer}{}", Bytes(&out))
+    tell(rt, "write_into", case, room, |out| {
+        write_into(
+            header,
+            &buffers.values[..lent.values.min(7)],
+            &buffers.counts[..lent.counts.min(4)],
+            &buffers.nodes[..lent.nodes.min(19)],
+            out,
+        )
+    })
 }
 
 fn changed<F: FnOnce(&mut Buffers<7, 4, 19>)>(
@@ -79,7 +87,10 @@ pub fn records(rt: &impl Print) -> io::Result<()> {
     };
     let short = Lengths { nodes: 17, ..EXACT };
     write_over(rt, "6 ahead of 17", no_element, short, BUFFERS, 52)?;
-    write_over(rt, "id_next p", no_element, EXACT, BUFFERS, 52)?;
+    write_over(rt, "id_next p", no_element, EXACT, BUFFERS, 52)
+}
+
+pub fn cells(rt: &impl Print) -> io::Result<()> {
     changed(
         rt,
         "a used value cell is p",
@@ -123,15 +134,15 @@ fn from_state(
     };
     let mut values = BUFFERS.values;
     values[4] = last;
-    let mut out = [0xee; 53];
-    let answer = written(write_state_into(
-        state,
-        &values[..6],
-        &BUFFERS.counts[..3],
-        &BUFFERS.nodes[..node_cells.min(19)],
-        &mut out[..room.min(53)],
-    ));
-    println!(rt; "write_state_into: {case} = {answer}{}", Bytes(&out))
+    tell(rt, "write_state_into", case, room, |out| {
+        write_state_into(
+            state,
+            &values[..6],
+            &BUFFERS.counts[..3],
+            &BUFFERS.nodes[..node_cells.min(19)],
+            out,
+        )
+    })
 }
 
 pub fn from_states(rt: &impl Print) -> io::Result<()> {

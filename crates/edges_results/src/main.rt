@@ -11,5 +11,6 @@ fn main(rt: HostRuntime) -> io::Result<()> {
     results::outputs(&rt)?;
     results::finished(&rt)?;
     tests::counts(&rt)?;
-    tests::cells_tested(&rt)
+    tests::room(&rt)?;
+    tests::cells(&rt)
 }

@@ -1,10 +1,10 @@
 // The result, "13, 6, 11, 12, changing nothing", and the header of a finished state.
 use field::P;
 use std::io;
-use telling::answers::{Answer, Header, Refused};
+use telling::answers::{Answer, Header};
 use telling::buffers::Lengths;
 use telling::listing::{EXACT, ONE_SHORT, OPENED, UNTOUCHED};
-use trace::{CircuitEvaluation, HeaderAnswer, OutputAnswer};
+use trace::CircuitEvaluation;
 
 const FINISHED: CircuitEvaluation = CircuitEvaluation {
     reads_done: 1,
@@ -72,18 +72,7 @@ fn output(
         &UNTOUCHED.counts[..lent.counts.min(7)],
         &UNTOUCHED.nodes[..lent.nodes.min(52)],
     );
-    let answer = match output {
-        OutputAnswer::Zero(header) => Ok(Header(header)),
-        OutputAnswer::Refused(number, place) => Err(Refused { number, place }),
-    };
-    println!(rt; "output_value: {case} = {}", Answer(answer))
-}
-
-fn finalized(answer: HeaderAnswer) -> Answer<Header> {
-    Answer(match answer {
-        HeaderAnswer::Header(header) => Ok(Header(header)),
-        HeaderAnswer::Refused(number, place) => Err(Refused { number, place }),
-    })
+    println!(rt; "output_value: {case} = {}", Answer(output.map(Header)))
 }
 
 pub fn outputs(rt: &impl Print) -> io::Result<()> {
@@ -114,7 +103,10 @@ pub fn finished(rt: &impl Print) -> io::Result<()> {
             id_next,
             ..FINISHED
         };
-        println!(rt; "finalized: {case} = {}", finalized(state.finalized()))?;
+        println!(rt;
+            "finalized: {case} = {}",
+            Answer(state.finalized().map(Header))
+        )?;
     }
     Ok(())
 }

@@ -1,9 +1,10 @@
 // Fill: "21, 19, 6, 17 (a used value or node cell, or id_next, p or more), then fill 14". Every cell
 // of the row buffer is told, and of what lies behind the lent part.
 use field::P;
-use rows::{FillAnswer, fill, fill_state};
+use refusal::Refusal;
+use rows::{fill, fill_state};
 use std::io;
-use telling::answers::{Answer, Refused};
+use telling::answers::Answer;
 use telling::buffers::{Buffers, CANARY, Lengths};
 use telling::lists::{Cells, Numbers};
 use telling::small::{BAD_COUNTS, BUFFERS, EXACT, FINISHED, HEADER, ONE_SHORT, STATES, WHOLE};
@@ -20,14 +21,23 @@ const PLACES: &[(&str, usize, usize)] = &[
     ("from the largest row on", usize::MAX, 49),
 ];
 
-fn filled(answer: FillAnswer) -> Answer<Numbers<0>> {
-    Answer(match answer {
-        FillAnswer::Filled => Ok(Numbers([])),
-        FillAnswer::Refused(number, place) => Err(Refused { number, place }),
-    })
+// Into the first `room` of these cells.
+fn tell<const N: usize, F: FnOnce(&mut [u64]) -> Result<(), Refusal>>(
+    rt: &impl Print,
+    call: &str,
+    case: &str,
+    mut rows: [u64; N],
+    room: usize,
+    fill: F,
+) -> io::Result<()>
+    requires { F.IsAlwaysCallable fill }
+{
+    let filled = fill(&mut rows[..room.min(N)]);
+    let answer = Answer(filled.map(|()| Numbers([])));
+    println!(rt; "{call}: {case} = {answer} rows{}", Cells(&rows))
 }
 
-// Into the first `room` of 49 cells, three rows and one cell.
+// Over three rows and one cell.
 fn fill_over(
     rt: &impl Print,
     case: &str,
@@ -37,16 +47,16 @@ fn fill_over(
     offset: usize,
     room: usize,
 ) -> io::Result<()> {
-    let mut rows = [CANARY; 49];
-    let answer = filled(fill(
-        header,
-        &buffers.values[..lent.values.min(7)],
-        &buffers.counts[..lent.counts.min(4)],
-        &buffers.nodes[..lent.nodes.min(19)],
-        offset,
-        &mut rows[..room.min(49)],
-    ));
-    println!(rt; "fill: {case} = {answer} rows{}", Cells(&rows))
+    tell(rt, "fill", case, [CANARY; 49], room, |rows| {
+        fill(
+            header,
+            &buffers.values[..lent.values.min(7)],
+            &buffers.counts[..lent.counts.min(4)],
+            &buffers.nodes[..lent.nodes.min(19)],
+            offset,
+            rows,
+        )
+    })
 }
 
 fn changed<F: FnOnce(&mut Buffers<7, 4, 19>)>(
@@ -88,12 +98,13 @@ pub fn two_of_each(rt: &impl Print) -> io::Result<()> {
         id_next: 0,
         ..HEADER
     };
-    let mut rows = [CANARY; 65];
-    let counts = [1, 2, 3, 4, 5, 6];
-    let answer = filled(fill(header, &[0; 12], &counts, &[0; 36], 0, &mut rows));
-    println!(rt;
-        "fill: two READ and two EVAL nodes, num_eval - 1, one s_start = {answer} rows{}",
-        Cells(&rows)
+    tell(
+        rt,
+        "fill",
+        "two READ and two EVAL nodes, num_eval - 1, one s_start",
+        [CANARY; 65],
+        65,
+        |rows| { fill(header, &[0; 12], &[1, 2, 3, 4, 5, 6], &[0; 36], 0, rows) },
     )
 }
 
@@ -124,7 +135,10 @@ pub fn records_refused(rt: &impl Print) -> io::Result<()> {
     };
     let short = Lengths { nodes: 17, ..EXACT };
     fill_over(rt, "6 ahead of 17", no_element, short, BUFFERS, 0, 32)?;
-    fill_over(rt, "id_next p", no_element, EXACT, BUFFERS, 0, 32)?;
+    fill_over(rt, "id_next p", no_element, EXACT, BUFFERS, 0, 32)
+}
+
+pub fn cells(rt: &impl Print) -> io::Result<()> {
     changed(
         rt,
         "a used value cell is p",
@@ -168,16 +182,16 @@ fn from_state(
     };
     let mut values = BUFFERS.values;
     values[4] = last;
-    let mut rows = [CANARY; 33];
-    let answer = filled(fill_state(
-        state,
-        &values[..6],
-        &BUFFERS.counts[..3],
-        &BUFFERS.nodes[..node_cells.min(19)],
-        0,
-        &mut rows[..room.min(33)],
-    ));
-    println!(rt; "fill_state: {case} = {answer} rows{}", Cells(&rows))
+    tell(rt, "fill_state", case, [CANARY; 33], room, |rows| {
+        fill_state(
+            state,
+            &values[..6],
+            &BUFFERS.counts[..3],
+            &BUFFERS.nodes[..node_cells.min(19)],
+            0,
+            rows,
+        )
+    })
 }
 
 pub fn from_states(rt: &impl Print) -> io::Result<()> {

@@ -9,5 +9,6 @@ fn main(rt: HostRuntime) -> io::Result<()> {
     filling::rows_filled(&rt)?;
     filling::two_of_each(&rt)?;
     filling::records_refused(&rt)?;
+    filling::cells(&rt)?;
     filling::from_states(&rt)
 }

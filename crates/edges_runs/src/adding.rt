@@ -1,9 +1,9 @@
 // Adding a run: 13, "then 1, 2, 3 as for opening, 25 (32 other clocks)"; "a refusal leaves the list",
 // which is told after the answer.
 use crate::lists::{Listed, entry, list, with_second};
-use runs::{Ace, AddAnswer, Entry};
+use runs::{Ace, Entry};
 use std::io;
-use telling::answers::{Answer, Refused};
+use telling::answers::Answer;
 use telling::lists::Numbers;
 
 // How many runs the list has, and the clock and the counts of the run that is added.
@@ -49,17 +49,10 @@ const SECONDS: &[(&str, u32, u32, u32)] = &[
     ("a run with num_eval 0", 20, 1, 0),
 ];
 
-fn add_to(rt: &impl Print, case: &str, list: Ace, entry: Entry) -> io::Result<()> {
-    let outcome = list.add_circuit_evaluation(entry);
-    let answer = match outcome.answer {
-        AddAnswer::Added => Ok(Numbers([])),
-        AddAnswer::Refused(number, place) => Err(Refused { number, place }),
-    };
-    println!(rt;
-        "add_circuit_evaluation: {case} = {}{}",
-        Answer(answer),
-        Listed(outcome.list)
-    )
+fn add_to(rt: &impl Print, case: &str, mut list: Ace, entry: Entry) -> io::Result<()> {
+    let added = list.add_circuit_evaluation(entry);
+    let answer = Answer(added.map(|()| Numbers([])));
+    println!(rt; "add_circuit_evaluation: {case} = {answer}{}", Listed(list))
 }
 
 fn add(rt: &impl Print, cases: &[(&str, u32, u32, u32, u32)]) -> io::Result<()> {

@@ -1,9 +1,9 @@
 // "The total of rows (num_read + num_eval a run) and the first row of a clock, the sum of rows of
 // smaller clocks; or 26."
 use crate::lists::{entry, list, with_second};
-use runs::RowsAnswer;
+use runs::Ace;
 use std::io;
-use telling::answers::{Answer, Refused};
+use telling::answers::Answer;
 use telling::lists::Numbers;
 
 // How many runs the list has.
@@ -48,31 +48,34 @@ const ROWS_CHANGED: &[(&str, u32, u32, u32)] = &[
     ("a run with num_eval 0", 20, 0, 10),
 ];
 
-fn told(answer: RowsAnswer) -> Answer<Numbers<1>> {
-    Answer(match answer {
-        RowsAnswer::Rows(rows) => Ok(Numbers([rows])),
-        RowsAnswer::Refused(number, place) => Err(Refused { number, place }),
-    })
+fn total(rt: &impl Print, case: &str, list: Ace) -> io::Result<()> {
+    let rows = list.trace_len().map(|rows| Numbers([rows]));
+    println!(rt; "trace_len: {case} = {}", Answer(rows))
+}
+
+fn first(rt: &impl Print, case: &str, list: Ace, clk: u32) -> io::Result<()> {
+    let row = list.first_row(clk).map(|row| Numbers([row]));
+    println!(rt; "first_row: {case} = {}", Answer(row))
 }
 
 pub fn totals(rt: &impl Print) -> io::Result<()> {
     for &(case, len) in TOTALS {
-        println!(rt; "trace_len: {case} = {}", told(list(len).trace_len()))?;
+        total(rt, case, list(len))?;
     }
     for &(case, len, clk, num_read, num_eval) in TOTALS_CHANGED {
         let list = with_second(len, entry(clk, num_read, num_eval));
-        println!(rt; "trace_len: {case} = {}", told(list.trace_len()))?;
+        total(rt, case, list)?;
     }
     Ok(())
 }
 
 pub fn rows(rt: &impl Print) -> io::Result<()> {
     for &(case, len, clk) in ROWS {
-        println!(rt; "first_row: {case} = {}", told(list(len).first_row(clk)))?;
+        first(rt, case, list(len), clk)?;
     }
     for &(case, second, num_eval, clk) in ROWS_CHANGED {
         let list = with_second(3, entry(second, 1, num_eval));
-        println!(rt; "first_row: {case} = {}", told(list.first_row(clk)))?;
+        first(rt, case, list, clk)?;
     }
     Ok(())
 }

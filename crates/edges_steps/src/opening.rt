@@ -2,12 +2,12 @@
 // nothing".
 use crate::steps::After;
 use std::io;
-use telling::answers::{Answer, Refused};
+use telling::answers::Answer;
 use telling::buffers::Lengths;
 use telling::listing::{EXACT, ONE_SHORT, UNTOUCHED, WHOLE};
 use telling::lists::Numbers;
+use trace::CircuitEvaluation;
 use trace::counts::test_counts;
-use trace::{CircuitEvaluation, OpenAnswer, Tested};
 
 const COUNTS: &[(&str, u32, u32)] = &[
     ("counts 1 and 4", 1, 4),
@@ -61,18 +61,7 @@ fn open(
         &UNTOUCHED.counts[..lent.counts.min(7)],
         &UNTOUCHED.nodes[..lent.nodes.min(52)],
     );
-    let answer = match opened {
-        OpenAnswer::Opened(state) => Ok(After(state)),
-        OpenAnswer::Refused(number, place) => Err(Refused { number, place }),
-    };
-    println!(rt; "new: {case} = {}", Answer(answer))
-}
-
-fn tested(answer: Tested) -> Answer<Numbers<0>> {
-    Answer(match answer {
-        Tested::Passed => Ok(Numbers([])),
-        Tested::Refused(number, place) => Err(Refused { number, place }),
-    })
+    println!(rt; "new: {case} = {}", Answer(opened.map(After)))
 }
 
 pub fn counts(rt: &impl Print) -> io::Result<()> {
@@ -95,8 +84,8 @@ pub fn room(rt: &impl Print) -> io::Result<()> {
 
 pub fn counts_alone(rt: &impl Print) -> io::Result<()> {
     for &(case, num_read, num_eval) in COUNTS_ALONE {
-        let answer = tested(test_counts(num_read, num_eval));
-        println!(rt; "test_counts: {case} = {answer}")?;
+        let answer = test_counts(num_read, num_eval).map(|()| Numbers([]));
+        println!(rt; "test_counts: {case} = {}", Answer(answer))?;
     }
     Ok(())
 }

@@ -1,9 +1,9 @@
 // A step, and what it leaves.
 use std::{fmt, io};
-use telling::answers::{Answer, Refused, State};
+use telling::answers::{Answer, State};
 use telling::buffers::{Buffers, Lengths};
 use telling::lists::Numbers;
-use trace::{CircuitEvaluation, StepAnswer};
+use trace::{CircuitEvaluation, RefusedStep};
 
 // The state after a call.
 #[derive(Clone, Copy)]
@@ -15,7 +15,9 @@ impl fmt::Display for After {
     }
 }
 
-pub fn take<F: FnOnce(&mut [u64], &mut [u32], &mut [u64]) -> StepAnswer>(
+pub fn take<
+    F: FnOnce(&mut [u64], &mut [u32], &mut [u64]) -> Result<CircuitEvaluation, RefusedStep>,
+>(
     rt: &impl Print,
     call: &str,
     case: &str,
@@ -30,13 +32,11 @@ pub fn take<F: FnOnce(&mut [u64], &mut [u32], &mut [u64]) -> StepAnswer>(
         &mut buffers.counts[..lent.counts.min(7)],
         &mut buffers.nodes[..lent.nodes.min(52)],
     );
-    let (answer, state) = match stepped {
-        StepAnswer::Done(state) => (Ok(Numbers([])), state),
-        StepAnswer::Refused(state, number, place) => (Err(Refused { number, place }), state),
-    };
-    println!(rt;
-        "{call}: {case} = {}{}{buffers}",
-        Answer(answer),
-        After(state)
-    )
+    let answer = Answer(
+        stepped
+            .map(|_| Numbers([]))
+            .map_err(|refused| refused.refusal),
+    );
+    let after = After(stepped.unwrap_or_else(|refused| refused.state));
+    println!(rt; "{call}: {case} = {answer}{after}{buffers}")
 }

@@ -7,12 +7,13 @@ mod calls;
 mod steps;
 
 use crate::calls::{CALLS, Call, NO_STATE};
-use crate::steps::{ByValue, InPlace, Lent, Step, Surface};
+use crate::steps::{ByValue, InPlace, Lent, Surface};
+use in_place::Stepped;
 use std::io;
-use telling::answers::{Answer, Refused, State};
+use telling::answers::{Answer, State};
 use telling::buffers::{CANARY, COUNT_CANARY};
 use telling::lists::{Cells, Numbers};
-use trace::{CircuitEvaluation, OutputAnswer};
+use trace::CircuitEvaluation;
 
 const UNTOUCHED: Lent = Lent {
     values: [CANARY; 14],
@@ -20,25 +21,22 @@ const UNTOUCHED: Lent = Lent {
     nodes: [CANARY; 53],
 };
 
-fn tell<S: Surface>(rt: &impl Print, call: &str, step: Step) -> io::Result<CircuitEvaluation> {
+fn tell<S: Surface>(rt: &impl Print, call: &str, step: Stepped) -> io::Result<CircuitEvaluation> {
     println!(rt;
         "{}: {call} = {},{}",
         S::NAME,
-        Answer(step.answer),
+        Answer(step.told.map(|()| Numbers([]))),
         State(step.state)
     )?;
     Ok(step.state)
 }
 
 fn output<S: Surface>(rt: &impl Print, state: CircuitEvaluation, lent: &Lent) -> io::Result<()> {
-    let answer = match S::output_value(state, lent) {
-        OutputAnswer::Zero(header) => Ok(Numbers([header.id_next])),
-        OutputAnswer::Refused(number, place) => Err(Refused { number, place }),
-    };
+    let id_next = S::output_value(state, lent).map(|header| Numbers([header.id_next]));
     println!(rt;
         "{}: output_value = {},{}",
         S::NAME,
-        Answer(answer),
+        Answer(id_next),
         State(state)
     )
 }
@@ -65,16 +63,6 @@ fn run<S: Surface>(rt: &impl Print, lent: &mut Lent) -> io::Result<CircuitEvalua
     Ok(state)
 }
 
-fn is_same_state(a: CircuitEvaluation, b: CircuitEvaluation) -> bool {
-    a.ctx == b.ctx
-        && a.clk == b.clk
-        && a.num_read == b.num_read
-        && a.num_eval == b.num_eval
-        && a.reads_done == b.reads_done
-        && a.evals_done == b.evals_done
-        && a.id_next == b.id_next
-}
-
 fn compare(rt: &impl Print, what: &str, is_same: bool) -> io::Result<()> {
     println!(rt; "{what} {}", if is_same { "same" } else { "differ" })
 }
@@ -84,7 +72,7 @@ fn main(rt: HostRuntime) -> io::Result<()> {
     let mut in_place = UNTOUCHED;
     let state = run::<ByValue>(&rt, &mut by_value)?;
     let state_in_place = run::<InPlace>(&rt, &mut in_place)?;
-    compare(&rt, "state", is_same_state(state, state_in_place))?;
+    compare(&rt, "state", state == state_in_place)?;
     compare(&rt, "values", by_value.values == in_place.values)?;
     compare(&rt, "counts", by_value.counts == in_place.counts)?;
     compare(&rt, "nodes", by_value.nodes == in_place.nodes)

@@ -1,24 +1,17 @@
 // What a call answered.
+use refusal::Refusal;
 use std::fmt;
 use trace::{CircuitEvaluation, RecordHeader};
 
-// A refusal's number and its place.
-#[derive(Clone, Copy)]
-pub struct Refused {
-    pub number: u32,
-    pub place: u64,
-}
-
-// `accept` and the value, which tells the space ahead of it; or `refuse`, the refusal's number and its
-// place.
+// `accept` and the value, which tells the space ahead of it, or the refusal.
 #[derive(Drop)]
-pub struct Answer<T>(pub Result<T, Refused>);
+pub struct Answer<T>(pub Result<T, Refusal>);
 
 impl<T: fmt::Display> fmt::Display for Answer<T> {
     fn fmt<W: fmt::Write>(&self, f: &mut fmt::Formatter<W>) -> fmt::Result {
         match &self.0 {
             Ok(value) => write!(f, "accept{value}"),
-            Err(refused) => write!(f, "refuse {} {}", refused.number, refused.place),
+            Err(refusal) => write!(f, "{refusal}"),
         }
     }
 }
