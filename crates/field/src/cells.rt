@@ -34,12 +34,13 @@ pub fn test_elements(numbers: &[u64]) -> Result<(), Refusal>
     Ok(())
 }
 
-// The numbers as elements, where they are.
+// Numbers as elements, or the refusal of the first that is none.
 pub(crate) fn elements<const N: usize>(numbers: [u64; N]) -> Result<[Felt; N], Refusal>
     ensures { told (λ felts. felts) result ≡ of_elements numbers.entry (accepted numbers.entry) }
 {
     test_elements(&numbers)?;
     let mut felts = [Felt { value: 0 }; N];
+    // By index: for any N, `map` asks that an iterator of the numbers fits in memory, and what `from_fn` says needs an induction.
     for at in 0..N {
         felts[at] = Felt { value: numbers[at] };
     }

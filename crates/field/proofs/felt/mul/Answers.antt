@@ -1,6 +1,6 @@
 -- `field::felt::mul` meets its contract.
 -- Assumes nothing.
-use Rattle.std.proofs.Common.{ℕ, List, [], ◌∷◌, ap, ◌∙◌, get_or}
+use Rattle.std.proofs.Common.{[], ◌∷◌, ap, ◌∙◌, get_or}
 use Rattle.refusal.specs.Refusal.{number_alone}
 use Rattle.field.specs.Field.{mul_f}
 use Rattle.field.proofs.Over.{elements_refused, elements_passed}

@@ -1,6 +1,6 @@
 -- `field::quad::add_or_sub` meets its contract.
 -- Assumes nothing.
-use Rattle.std.proofs.Common.{List, ℕ, cond, get_or, ◌∙◌}
+use Rattle.std.proofs.Common.{cond, get_or, ◌∙◌}
 use Rattle.field.specs.Pair.{pair, cells, add_pair, sub_pair}
 use Rattle.field.proofs.Over.{elements_refused, elements_passed}
 use Rattle.field.proofs.PairLaws.{pair_chosen}

@@ -1,6 +1,6 @@
 -- `field::quad::mul` meets its contract.
 -- Assumes nothing.
-use Rattle.std.proofs.Common.{ℕ, List, [], ◌∷◌, ap₂, ◌∙◌, get_or}
+use Rattle.std.proofs.Common.{ℕ, [], ◌∷◌, ap₂, ◌∙◌, get_or}
 use Rattle.field.specs.Pair.{pair, cells, mul_pair}
 use Rattle.field.proofs.Over.{elements_refused, elements_passed}
 use Rattle.field.proofs.Remainders.{sum_with}
