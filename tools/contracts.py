@@ -2,7 +2,8 @@
 """Holds docs/CONTRACTS.md to the code: it names every public function and no other, and every wrong
 program of the must-fail edits and no other; and each public function's contract determines its outcome by form: no
 `requires`, an `ensures` that names the result, and `.new` of every `&mut` parameter. The line of each
-also cites the theorem of crates/determined that any two outcomes of that function are the same. A method
+also cites the theorem of crates/determined that any two outcomes of that function are the same; but for those
+that work by a type which their caller brings, each with a type parameter, in a section of their own. A method
 is public with its type wherever its block stands, so those of private modules say `pub(crate)`. A static
 library has no lines: it exports the functions of a library, all of them and under the same clauses."""
 import pathlib
@@ -13,7 +14,9 @@ import wrong
 
 PAPER = pathlib.Path("docs/CONTRACTS.md")
 PROOFS = pathlib.Path("crates/determined/proofs")
-FUNCTION = re.compile(r"\bpub\s+(?:extern\s+\"C\"\s+)?fn\s+(\w+)\s*(?:<[^>]*>)?\s*\(")
+BY_TYPE = "## Functions whose outcome is a caller's type's too"
+FUNCTION = re.compile(r"\bpub\s+(?:extern\s+\"C\"\s+)?fn\s+(\w+)\s*(<[^>]*>)?\s*\(")
+TYPE_PARAMETER = re.compile(r"[<,]\s*[A-Z]\w*\s*:")
 CLAUSE = re.compile(r"\s*(requires|ensures)\b\s*\w*\s*\{")
 ROW = re.compile(r"^\| `(\w+(?:::\w+)+)`(?: \|[^|]*\| `([\w-]+)` \|)?", re.M)
 USE = re.compile(r"^use Rattle\.(\w+)\.(?:proofs\.([\w.]+)\.Reads|specs\.contracts\.([\w.]+)) as ([\w-]+)$", re.M)
@@ -59,7 +62,7 @@ def faults(parameters, result, clauses):
 
 
 def functions(text, path):
-    """The public functions of a file: path, parameters, result and clauses of each."""
+    """The public functions of a file: path, type parameters, parameters, result and clauses of each."""
     for found in FUNCTION.finditer(text):
         end = closing(text, found.end() - 1)
         parameters = text[found.end():end]
@@ -69,7 +72,7 @@ def functions(text, path):
             at = closing(text, clause.end() - 1) + 1
             clauses.append((clause.group(1), text[clause.end():at - 1]))
         name = path + owner(text, found.start()) + found.group(1)
-        yield name, parameters, head.group(1), clauses
+        yield name, found.group(2) or "", parameters, head.group(1), clauses
 
 
 def modules(file, path=""):
@@ -84,12 +87,12 @@ def modules(file, path=""):
 
 
 def public(crate):
-    """The public functions of a crate, and what the contract of each lacks."""
+    """The public functions of a crate, the type parameters of each, and what its contract lacks."""
     for file, path in modules(crate / "src/lib.rt", f"{crate.name}::"):
         text = without_comments(file.read_text("utf-8"))
-        yield from ((name, list(faults(*contract))) for name, *contract in functions(text, path))
+        yield from ((name, types, list(faults(*contract))) for name, types, *contract in functions(text, path))
         for name in re.findall(r"\bpub\s+use\s+([^;]+);", text):
-            yield path + name, ["is passed on by `pub use`, which this check does not follow"]
+            yield path + name, "", ["is passed on by `pub use`, which this check does not follow"]
 
 
 def hidden(crate):
@@ -111,6 +114,13 @@ def theorems():
             yield calls.get(ended) if calls.get(ended) == calls.get(learnt) else None, theorem
         for theorem, name in CLAUSES.findall(text):
             yield calls.get(name), theorem
+
+
+def sections(paper):
+    """The page without the section of functions whose outcome is a caller's type's too, and that section."""
+    before, head, after = paper.partition(BY_TYPE)
+    own, mark, rest = after.partition("\n## ")
+    return before + mark + rest, head + own
 
 
 def undetermined(lines):
@@ -139,7 +149,7 @@ def said(crate):
         cited = {}
         for place, names in re.findall(r"\bghost\s+use\s+([\w.]+)\.(\{[^}]*\}|[^\s;{]+)\s*;", text):
             cited.update((name, f"{place}.{name}") for name in re.findall(r"[^\s,{}]+", names))
-        for name, parameters, result, clauses in functions(text, path):
+        for name, _, parameters, result, clauses in functions(text, path):
             words = [re.sub(r",\s*$", "", parameters), result or ""] + [f"{kind} {body}" for kind, body in clauses]
             whole = [re.sub(r"[^\s,(){}.]+", lambda word: cited.get(word[0], word[0]), word) for word in words]
             found[name.rsplit("::", 1)[1]] = ["".join(word.split()) for word in whole]
@@ -158,14 +168,16 @@ def exported(static, library):
 
 def complaints():
     paper = PAPER.read_text("utf-8")
-    lines = ROW.findall(paper)
-    yield from undetermined(lines)
-    rows = [function for function, _ in lines]
-    code = {}
+    table, listed = map(ROW.findall, sections(paper))
+    yield from undetermined(table)
+    rows = [function for function, _ in table + listed]
+    code, generic = {}, set()
     for root in sorted(pathlib.Path("crates").glob("*/src/lib.rt")):
-        if root.parents[1].name not in exports():
-            code.update(public(root.parents[1]))
+        for name, types, lacks in public(root.parents[1]) if root.parents[1].name not in exports() else ():
+            code[name] = lacks
+            generic |= {name} if TYPE_PARAMETER.search(types) else set()
         yield from hidden(root.parents[1])
+    yield from (f"{PAPER} says that a type decides over {name}, which has no type parameter" for name, _ in listed if name not in generic)
     yield from (fault for static, library in exports().items() for fault in exported(static, library))
     yield from (f"{name}: {fault}" for name, lacks in code.items() for fault in lacks)
     yield from (f"{name} is public and {PAPER} does not name it" for name in code if name not in rows)

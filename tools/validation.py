@@ -70,7 +70,7 @@ def promises():
         name = root.parents[1].name
         for file, path in contracts.modules(root, f"{name}::") if name not in contracts.exports() else ():
             text = contracts.without_comments(file.read_text("utf-8"))
-            for name, _, _, clauses in contracts.functions(text, path):
+            for name, _, _, _, clauses in contracts.functions(text, path):
                 yield name, " ".join(body for _, body in clauses)
 
 

@@ -1,3 +1,2 @@
 pub mod Threes
-pub mod Turns
 pub mod Kept

@@ -4,7 +4,8 @@ ghost use Rattle.refusal.specs.Codes.{code, values_or, place_told};
 ghost use Rattle.trace.specs.Outcome.{lent};
 ghost use Rattle.eval_circuit.specs.Evaluated.{eval_answer, eval_buffers};
 
-use crate::tell::tell_output;
+use crate::convert::header_numbers;
+use crate::tell::tell;
 use eval_circuit::eval_circuit;
 
 pub fn ace_eval_circuit(
@@ -28,5 +29,6 @@ pub fn ace_eval_circuit(
     let answer = eval_circuit(
         ctx, clk, ptr, num_vars, num_eval, memory, values, counts, nodes,
     );
-    tell_output(answer, header, place)
+    *header = answer.map_or(*header, header_numbers);
+    tell(answer, place)
 }

@@ -1,106 +1,91 @@
 // States, headers and run lists from numbers and back.
-ghost use Rattle.std.specs.Prelude.{◌≡◌};
+ghost use Rattle.std.specs.Prelude.{◌≡◌, [], ◌∷◌};
 ghost use Rattle.trace.specs.Output.{header_numbers};
-ghost use Rattle.ace_c.specs.States.{state_of, six_of, header_by};
+ghost use Rattle.ace_c.specs.States.{state_of, six_of};
 ghost use Rattle.ace_c.specs.Lists.{list_of, threes_of};
 
-use runs::{Ace, Entry, MAX_EVAL_CIRCUIT_INVOCATIONS};
+use runs::{Ace, Entry};
+use std::array;
 use trace::{CircuitEvaluation, RecordHeader};
 
-pub(crate) fn state_of(numbers: [u32; 6], id_next: u64) -> CircuitEvaluation
-    ensures { result ≡ state_of numbers id_next }
-{
-    CircuitEvaluation {
-        ctx: numbers[0],
-        clk: numbers[1],
-        num_read: numbers[2],
-        num_eval: numbers[3],
-        reads_done: numbers[4],
-        evals_done: numbers[5],
-        id_next: id_next,
+// A state's ctx, clk, num_read, num_eval, reads_done and evals_done, and its id_next.
+pub(crate) struct StateNumbers(pub(crate) [u32; 6], pub(crate) u64);
+
+impl From<StateNumbers> for CircuitEvaluation {
+    ghost from_gives = { λ numbers state. state ≡ state_of numbers.0 numbers.1 };
+
+    fn from(numbers: StateNumbers) -> CircuitEvaluation {
+        let StateNumbers([ctx, clk, num_read, num_eval, reads_done, evals_done], id_next) = numbers;
+        CircuitEvaluation {
+            ctx,
+            clk,
+            num_read,
+            num_eval,
+            reads_done,
+            evals_done,
+            id_next,
+        }
     }
 }
 
-pub(crate) fn state_numbers(state: CircuitEvaluation) -> [u32; 6]
-    ensures { result ≡ six_of state }
-{
-    [
-        state.ctx,
-        state.clk,
-        state.num_read,
-        state.num_eval,
-        state.reads_done,
-        state.evals_done,
-    ]
-}
+impl From<CircuitEvaluation> for StateNumbers {
+    ghost from_gives = { λ state numbers. (numbers.0 ≡ six_of state) × (numbers.1 ≡ state.id_next) };
 
-pub(crate) fn header_of(
-    ctx: u32,
-    clk: u32,
-    num_read: u32,
-    num_eval: u32,
-    id_next: u64,
-) -> RecordHeader
-    ensures { result ≡ header_by ctx clk num_read num_eval id_next }
-{
-    RecordHeader {
-        ctx: ctx,
-        clk: clk,
-        num_read: num_read,
-        num_eval: num_eval,
-        id_next: id_next,
+    fn from(state: CircuitEvaluation) -> StateNumbers {
+        let six = [
+            state.ctx,
+            state.clk,
+            state.num_read,
+            state.num_eval,
+            state.reads_done,
+            state.evals_done,
+        ];
+        StateNumbers(six, state.id_next)
     }
 }
 
+// No `From`: neither type is of this crate, and one of its own would only be taken off the array again.
 pub(crate) fn header_numbers(header: RecordHeader) -> [u64; 5]
     ensures { result ≡ header_numbers header }
 {
     [
-        header.ctx as u64,
-        header.clk as u64,
-        header.num_read as u64,
-        header.num_eval as u64,
+        u64::from(header.ctx),
+        u64::from(header.clk),
+        u64::from(header.num_read),
+        u64::from(header.num_eval),
         header.id_next,
     ]
 }
 
-pub(crate) fn list_of(numbers: [u32; 96], len: u32) -> Ace
-    ensures { result ≡ list_of numbers len }
-{
-    let none = Entry {
-        clk: 0,
-        num_read: 0,
-        num_eval: 0,
-    };
-    let mut entries = [none; 32];
-    let mut i: usize = 0;
-    while i < MAX_EVAL_CIRCUIT_INVOCATIONS {
-        let at = 3 * i;
-        entries[i] = Entry {
-            clk: numbers[at],
-            num_read: numbers[at + 1],
-            num_eval: numbers[at + 2],
-        };
-        i += 1;
-    }
-    Ace {
-        entries: entries,
-        len: len,
+// The clk, num_read and num_eval of each entry of a run list, and its length.
+pub(crate) struct ListNumbers(pub(crate) [u32; 96], pub(crate) u32);
+
+impl From<ListNumbers> for Ace {
+    ghost from_gives = { λ numbers list. list ≡ list_of numbers.0 numbers.1 };
+
+    fn from(numbers: ListNumbers) -> Ace {
+        let ListNumbers(threes, len) = numbers;
+        let entries = array::from_fn(|i| Entry {
+            clk: threes[3 * i],
+            num_read: threes[3 * i + 1],
+            num_eval: threes[3 * i + 2],
+        });
+        Ace { entries, len }
     }
 }
 
-pub(crate) fn entries_of(list: Ace) -> [u32; 96]
-    ensures { result ≡ threes_of list.entries }
-{
-    let mut numbers = [0u32; 96];
-    let mut i: usize = 0;
-    while i < MAX_EVAL_CIRCUIT_INVOCATIONS {
-        let entry = list.entries[i];
-        let at = 3 * i;
-        numbers[at] = entry.clk;
-        numbers[at + 1] = entry.num_read;
-        numbers[at + 2] = entry.num_eval;
-        i += 1;
+impl From<Ace> for ListNumbers {
+    ghost from_gives = { λ list numbers. (numbers.0 ≡ threes_of list.entries) × (numbers.1 ≡ list.len) };
+
+    fn from(list: Ace) -> ListNumbers {
+        let mut numbers = [0; 96];
+        numbers.copy_from_slice(list.entries.map(three_of).as_flattened());
+        ListNumbers(numbers, list.len)
     }
-    numbers
+}
+
+fn three_of(entry: Entry) -> [u32; 3]
+    ensures { result ≡ entry.clk ∷ entry.num_read ∷ entry.num_eval ∷ [] }
+{
+    [entry.clk, entry.num_read, entry.num_eval]
 }

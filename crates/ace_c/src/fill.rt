@@ -5,9 +5,10 @@ ghost use Rattle.trace.specs.Outcome.{lent};
 ghost use Rattle.rows.specs.Fill.{fill_answer, filled_rows, fill_state_answer, state_rows};
 ghost use Rattle.ace_c.specs.States.{state_of, header_by};
 
-use crate::convert::{header_of, state_of};
-use crate::tell::tell_fill;
+use crate::convert::StateNumbers;
+use crate::tell::tell;
 use rows::{fill, fill_state};
+use trace::{CircuitEvaluation, RecordHeader};
 
 pub fn ace_fill(
     ctx: u32,
@@ -26,9 +27,14 @@ pub fn ace_fill(
     ensures place_after { place.new ≡ place_told (fill_answer (header_by ctx clk num_read num_eval id_next) (lent values.now counts.now nodes.now) offset rows.old) }
     ensures rows_after { rows.new ≡ filled_rows (header_by ctx clk num_read num_eval id_next) (lent values.now counts.now nodes.now) offset rows.old }
 {
-    let header = header_of(ctx, clk, num_read, num_eval, id_next);
-    let answer = fill(header, values, counts, nodes, offset, rows);
-    tell_fill(answer, place)
+    let header = RecordHeader {
+        ctx,
+        clk,
+        num_read,
+        num_eval,
+        id_next,
+    };
+    tell(fill(header, values, counts, nodes, offset, rows), place)
 }
 
 pub fn ace_fill_state(
@@ -45,7 +51,9 @@ pub fn ace_fill_state(
     ensures place_after { place.new ≡ place_told (fill_state_answer (state_of state.now id_next) (lent values.now counts.now nodes.now) offset rows.old) }
     ensures rows_after { rows.new ≡ state_rows (state_of state.now id_next) (lent values.now counts.now nodes.now) offset rows.old }
 {
-    let state = state_of(*state, id_next);
-    let answer = fill_state(state, values, counts, nodes, offset, rows);
-    tell_fill(answer, place)
+    let state = CircuitEvaluation::from(StateNumbers(*state, id_next));
+    tell(
+        fill_state(state, values, counts, nodes, offset, rows),
+        place,
+    )
 }

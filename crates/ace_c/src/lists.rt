@@ -4,9 +4,9 @@ ghost use Rattle.refusal.specs.Codes.{code, value_or, place_told};
 ghost use Rattle.runs.specs.Calls.{total_answer, first_row_answer, add_answer, list_after};
 ghost use Rattle.ace_c.specs.Lists.{entry_by, list_of, threes_of};
 
-use crate::convert::{entries_of, list_of};
-use crate::tell::{tell_added, tell_rows};
-use runs::Entry;
+use crate::convert::ListNumbers;
+use crate::tell::tell;
+use runs::{Ace, Entry};
 
 pub fn ace_add_circuit_evaluation(
     entries: &mut [u32; 96],
@@ -22,15 +22,14 @@ pub fn ace_add_circuit_evaluation(
     ensures place_after { place.new ≡ place_told (add_answer (list_of entries.old len.old) (entry_by clk num_read num_eval)) }
 {
     let entry = Entry {
-        clk: clk,
-        num_read: num_read,
-        num_eval: num_eval,
+        clk,
+        num_read,
+        num_eval,
     };
-    let added = list_of(*entries, *len).add_circuit_evaluation(entry);
-    *entries = entries_of(added.list);
-    *len = added.list.len;
-    let answer = added.answer;
-    tell_added(answer, place)
+    let mut list = Ace::from(ListNumbers(*entries, *len));
+    let added = list.add_circuit_evaluation(entry);
+    ListNumbers(*entries, *len) = list.into();
+    tell(added, place)
 }
 
 pub fn ace_trace_len(entries: &[u32; 96], len: u32, rows_total: &mut u64, place: &mut u64) -> u32
@@ -38,8 +37,9 @@ pub fn ace_trace_len(entries: &[u32; 96], len: u32, rows_total: &mut u64, place:
     ensures rows_total_after { rows_total.new ≡ value_or 0 rows_total.old (total_answer (list_of entries.now len)) }
     ensures place_after { place.new ≡ place_told (total_answer (list_of entries.now len)) }
 {
-    let answer = list_of(*entries, len).trace_len();
-    tell_rows(answer, rows_total, place)
+    let total = Ace::from(ListNumbers(*entries, len)).trace_len();
+    *rows_total = total.unwrap_or(*rows_total);
+    tell(total, place)
 }
 
 pub fn ace_first_row(entries: &[u32; 96], len: u32, clk: u32, row: &mut u64, place: &mut u64) -> u32
@@ -47,6 +47,7 @@ pub fn ace_first_row(entries: &[u32; 96], len: u32, clk: u32, row: &mut u64, pla
     ensures row_after { row.new ≡ value_or 0 row.old (first_row_answer (list_of entries.now len) clk) }
     ensures place_after { place.new ≡ place_told (first_row_answer (list_of entries.now len) clk) }
 {
-    let answer = list_of(*entries, len).first_row(clk);
-    tell_rows(answer, row, place)
+    let first = Ace::from(ListNumbers(*entries, len)).first_row(clk);
+    *row = first.unwrap_or(*row);
+    tell(first, place)
 }

@@ -6,9 +6,10 @@ ghost use Rattle.record.specs.Bytes.{write_into_answer, written_into, write_stat
 ghost use Rattle.record.specs.Reading.{read_from_answer, read_buffers};
 ghost use Rattle.ace_c.specs.States.{state_of, header_by};
 
-use crate::convert::{header_of, state_of};
-use crate::tell::{tell_header, tell_write};
+use crate::convert::{StateNumbers, header_numbers};
+use crate::tell::tell;
 use record::{read_from, write_into, write_state_into};
+use trace::{CircuitEvaluation, RecordHeader};
 
 pub fn ace_write_into(
     ctx: u32,
@@ -28,9 +29,16 @@ pub fn ace_write_into(
     ensures place_after { place.new ≡ place_told (write_into_answer (header_by ctx clk num_read num_eval id_next) (lent values.now counts.now nodes.now) out.old) }
     ensures out_after { out.new ≡ written_into (header_by ctx clk num_read num_eval id_next) (lent values.now counts.now nodes.now) out.old }
 {
-    let header = header_of(ctx, clk, num_read, num_eval, id_next);
-    let answer = write_into(header, values, counts, nodes, out);
-    tell_write(answer, length, place)
+    let header = RecordHeader {
+        ctx,
+        clk,
+        num_read,
+        num_eval,
+        id_next,
+    };
+    let written = write_into(header, values, counts, nodes, out);
+    *length = written.map_or(*length, |bytes| bytes as u64);
+    tell(written, place)
 }
 
 pub fn ace_write_state_into(
@@ -48,9 +56,10 @@ pub fn ace_write_state_into(
     ensures place_after { place.new ≡ place_told (write_state_answer (state_of state.now id_next) (lent values.now counts.now nodes.now) out.old) }
     ensures out_after { out.new ≡ written_state (state_of state.now id_next) (lent values.now counts.now nodes.now) out.old }
 {
-    let state = state_of(*state, id_next);
-    let answer = write_state_into(state, values, counts, nodes, out);
-    tell_write(answer, length, place)
+    let state = CircuitEvaluation::from(StateNumbers(*state, id_next));
+    let written = write_state_into(state, values, counts, nodes, out);
+    *length = written.map_or(*length, |bytes| bytes as u64);
+    tell(written, place)
 }
 
 pub fn ace_read_from(
@@ -66,6 +75,7 @@ pub fn ace_read_from(
     ensures place_after { place.new ≡ place_told (read_from_answer bytes.now (lent values.old counts.old nodes.old)) }
     ensures nodes_after { lent values.new counts.new nodes.new ≡ read_buffers bytes.now (lent values.old counts.old nodes.old) }
 {
-    let answer = read_from(bytes, values, counts, nodes);
-    tell_header(answer, header, place)
+    let read = read_from(bytes, values, counts, nodes);
+    *header = read.map_or(*header, header_numbers);
+    tell(read, place)
 }

@@ -8,8 +8,9 @@ ghost use Rattle.trace.specs.Eval.{eval_step};
 ghost use Rattle.trace.specs.Output.{output_answer};
 ghost use Rattle.ace_c.specs.States.{state_of, six_of, word_by};
 
-use crate::convert::state_of;
-use crate::tell::{tell_open, tell_output, tell_step};
+use crate::convert::{StateNumbers, header_numbers};
+use crate::tell::tell;
+use in_place::{eval_in_place, read_in_place};
 use trace::CircuitEvaluation;
 
 pub fn ace_new(
@@ -30,7 +31,10 @@ pub fn ace_new(
     ensures place_after { place.new ≡ place_told (open_answer ctx clk num_read num_eval (lent values.now counts.now nodes.now)) }
 {
     let answer = CircuitEvaluation::new(ctx, clk, num_read, num_eval, values, counts, nodes);
-    tell_open(answer, state, id_next, place)
+    if let Ok(opened) = answer {
+        StateNumbers(*state, *id_next) = opened.into();
+    }
+    tell(answer, place)
 }
 
 pub fn ace_do_read(
@@ -52,9 +56,11 @@ pub fn ace_do_read(
     ensures place_after { place.new ≡ place_told (read_step (state_of state.old id_next.old) ptr (word_by c0 c1 c2 c3) (lent values.old counts.old nodes.old)).told }
     ensures nodes_after { lent values.new counts.new nodes.new ≡ (read_step (state_of state.old id_next.old) ptr (word_by c0 c1 c2 c3) (lent values.old counts.old nodes.old)).buffers }
 {
-    let before = state_of(*state, *id_next);
-    let answer = before.do_read(ptr, [[c0, c1], [c2, c3]], values, counts, nodes);
-    tell_step(answer, state, id_next, place)
+    let mut circuit = CircuitEvaluation::from(StateNumbers(*state, *id_next));
+    let word = [[c0, c1], [c2, c3]];
+    let told = read_in_place(&mut circuit, ptr, word, values, counts, nodes);
+    StateNumbers(*state, *id_next) = circuit.into();
+    tell(told, place)
 }
 
 pub fn ace_do_eval(
@@ -73,9 +79,10 @@ pub fn ace_do_eval(
     ensures place_after { place.new ≡ place_told (eval_step (state_of state.old id_next.old) ptr instruction (lent values.old counts.old nodes.old)).told }
     ensures nodes_after { lent values.new counts.new nodes.new ≡ (eval_step (state_of state.old id_next.old) ptr instruction (lent values.old counts.old nodes.old)).buffers }
 {
-    let before = state_of(*state, *id_next);
-    let answer = before.do_eval(ptr, instruction, values, counts, nodes);
-    tell_step(answer, state, id_next, place)
+    let mut circuit = CircuitEvaluation::from(StateNumbers(*state, *id_next));
+    let told = eval_in_place(&mut circuit, ptr, instruction, values, counts, nodes);
+    StateNumbers(*state, *id_next) = circuit.into();
+    tell(told, place)
 }
 
 pub fn ace_output_value(
@@ -91,6 +98,8 @@ pub fn ace_output_value(
     ensures header_after { header.new ≡ values_or 5 header.old (output_answer (state_of state.now id_next) (lent values.now counts.now nodes.now)) }
     ensures place_after { place.new ≡ place_told (output_answer (state_of state.now id_next) (lent values.now counts.now nodes.now)) }
 {
-    let answer = state_of(*state, id_next).output_value(values, counts, nodes);
-    tell_output(answer, header, place)
+    let state = CircuitEvaluation::from(StateNumbers(*state, id_next));
+    let output = state.output_value(values, counts, nodes);
+    *header = output.map_or(*header, header_numbers);
+    tell(output, place)
 }

@@ -3,6 +3,7 @@
 use Rattle.determined.specs.Determined.{Determined}
 use Rattle.determined.proofs.Same.{same}
 use Rattle.field.proofs.Answers.{felt_determined, quad_determined}
+use Rattle.refusal.proofs.Known.{nothing_determined}
 use Rattle.field.proofs.felt.add.Reads as felt-add
 use Rattle.field.specs.contracts.felt.add as felt-add-contract
 use Rattle.field.proofs.felt.sub.Reads as felt-sub
@@ -19,6 +20,8 @@ use Rattle.field.proofs.quad.mul.Reads as quad-mul
 use Rattle.field.specs.contracts.quad.mul as quad-mul-contract
 use Rattle.field.proofs.cells.first_over.Reads as first-over
 use Rattle.field.specs.contracts.cells.first_over as first-over-contract
+use Rattle.field.proofs.cells.test_elements.Reads as test-elements
+use Rattle.field.specs.contracts.cells.test_elements as test-elements-contract
 
 pub felt_add_determined : Determined felt-add-contract.ended felt-add.Learnt
 felt_add_determined κs a (r, _) (s, _) e f = λ i. (felt_determined r s (same e f) i, _)
@@ -43,3 +46,6 @@ quad_mul_determined κs a (r, _) (s, _) e f = λ i. (quad_determined r s (same e
 
 pub first_over_determined : Determined first-over-contract.ended first-over.Learnt
 first_over_determined κs a o q e f = λ i. (same e f i, _)
+
+pub test_elements_determined : Determined test-elements-contract.ended test-elements.Learnt
+test_elements_determined κs a (r, _) (s, _) e f = λ i. (nothing_determined r s (same e f) i, _)

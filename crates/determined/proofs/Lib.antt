@@ -1,3 +1,4 @@
+pub mod Refusal
 pub mod Same
 pub mod Field
 pub mod Buffer

@@ -2,7 +2,7 @@
 -- Assumes nothing.
 use Rattle.determined.specs.Determined.{Determined}
 use Rattle.determined.proofs.Same.{same}
-use Rattle.runs.proofs.Answers.{rows_determined, outcome_determined}
+use Rattle.runs.proofs.Answers.{rows_determined, add_determined}
 use Rattle.runs.proofs.Ace.trace_len.Reads as trace-len
 use Rattle.runs.specs.contracts.Ace.trace_len as trace-len-contract
 use Rattle.runs.proofs.Ace.first_row.Reads as first-row
@@ -17,4 +17,4 @@ pub first_row_determined : Determined first-row-contract.ended first-row.Learnt
 first_row_determined κs a (r, _) (s, _) e f = λ i. (rows_determined r s (same e f) i, _)
 
 pub add_circuit_evaluation_determined : Determined add-circuit-evaluation-contract.ended add-circuit-evaluation.Learnt
-add_circuit_evaluation_determined κs a (r, _) (s, _) e f = λ i. (outcome_determined a.0 a.1.0 r s e.0 e.1 f.0 f.1 i, _)
+add_circuit_evaluation_determined κs a (r, _) (s, _) e f = λ i. (add_determined r s (same e.0 f.0) i, (same e.1 f.1 i, _))

@@ -3,18 +3,15 @@
 // is lent, what has become of it follows.
 #![tactic(auto)]
 
-mod bytes;
 mod elements;
 mod gates;
 mod numbers_cases;
-mod say;
 
 use std::io;
 
 fn main(rt: HostRuntime) -> io::Result<()> {
     elements::felts(&rt)?;
-    elements::sums_of_pairs(&rt)?;
-    elements::products_of_pairs(&rt)?;
+    elements::quads(&rt)?;
     gates::words(&rt)?;
     numbers_cases::writing(&rt)?;
     numbers_cases::reading(&rt)?;

@@ -1,147 +1,133 @@
 // What is refused for what a cell holds: 7, then "gate by gate 8, 9, 10, then 12".
-use crate::calls::{cells_of_listing, evaluate, listing};
+use crate::calls::{ADD, Call, LAST, LISTING, MEMORY, MUL, SUB, evaluate};
 use field::P;
 use std::io;
+use telling::buffers::Lengths;
+use telling::listing::EXACT;
 
 // The first word with opcode 3.
 const OPCODE_3: u64 = 3458764513820540928;
 
-fn with_cells(
-    rt: &impl Print,
-    case: &[u8],
-    at: usize,
-    cell: u64,
-    second_at: usize,
-    second: u64,
-) -> io::Result<()> {
-    let mut memory = cells_of_listing();
-    if at < 16 {
-        memory[at] = cell;
-    }
-    if second_at < 16 {
-        memory[second_at] = second;
-    }
-    evaluate(rt, case, listing(), memory)
-}
+// A region of the listing's shape.
+type Region = [u64; 8];
 
-fn with_cell(rt: &impl Print, case: &[u8], at: usize, cell: u64) -> io::Result<()> {
-    with_cells(rt, case, at, cell, at, cell)
-}
+const RESULTS: &[(&str, Region)] = &[
+    (
+        "P11, the listing, counts 2 2 2 1 1 0 from id 5 to 0",
+        [3, 0, 4, 0, ADD, MUL, SUB, LAST],
+    ),
+    (
+        "P12, its last word Add of 1 and 2",
+        [3, 0, 4, 0, ADD, MUL, SUB, 2305843011361177601],
+    ),
+    (
+        "the last READ wire is zero, the last wire not",
+        [3, 0, 0, 0, ADD, MUL, SUB, 2305843012434919427],
+    ),
+    (
+        "the same total of counts, other counts",
+        [3, 0, 4, 0, ADD, 1152921509975556101, SUB, LAST],
+    ),
+];
 
-// The second copy of the circuit, at address 8, with a cell of memory changed.
-fn second_with_cell(rt: &impl Print, case: &[u8], at: usize, cell: u64) -> io::Result<()> {
-    let mut memory = cells_of_listing();
-    if at < 16 {
-        memory[at] = cell;
-    }
-    let mut call = listing();
-    call.ptr = 8;
-    evaluate(rt, case, call, memory)
-}
+const CELLS: &[(&str, Region)] = &[
+    (
+        "the region's first cell is p",
+        [P, 0, 4, 0, ADD, MUL, SUB, LAST],
+    ),
+    (
+        "the region's last cell is p",
+        [3, 0, 4, 0, ADD, MUL, SUB, P],
+    ),
+    (
+        "cells 5 and 3 are p, the first counts",
+        [3, 0, 4, P, ADD, P, SUB, LAST],
+    ),
+    ("a cell p - 1 passes", [P - 1, 0, 4, 0, ADD, MUL, SUB, LAST]),
+];
 
-fn short_with_cell(rt: &impl Print, case: &[u8], cell: u64) -> io::Result<()> {
-    let mut memory = cells_of_listing();
-    memory[0] = cell;
-    let mut call = listing();
-    call.nodes = 50;
-    evaluate(rt, case, call, memory)
+const GATES: &[(&str, [u64; 4])] = &[
+    ("the first gate has opcode 3", [OPCODE_3, MUL, SUB, LAST]),
+    ("the last gate has opcode 3", [ADD, MUL, SUB, OPCODE_3]),
+    ("the second gate is p - 1", [ADD, P - 1, SUB, LAST]),
+    ("8 ahead of 9", [OPCODE_3 + 3, MUL, SUB, LAST]),
+    (
+        "the first gate names id 3, itself, on the left",
+        [2305843013508661251, MUL, SUB, LAST],
+    ),
+    (
+        "the first gate names id 6 on the left",
+        [2305843013508661254, MUL, SUB, LAST],
+    ),
+    (
+        "the first gate names id 2, a later one, on the left",
+        [2305843013508661250, MUL, SUB, LAST],
+    ),
+    (
+        "the last gate names itself on the left",
+        [ADD, MUL, SUB, 1152921506754330624],
+    ),
+    ("9 ahead of 10", [2305843012434919427, MUL, SUB, LAST]),
+    (
+        "the first gate names id 3, itself, on the right",
+        [2305843012434919429, MUL, SUB, LAST],
+    ),
+    (
+        "the first gate names id 6 on the right",
+        [2305843015656144901, MUL, SUB, LAST],
+    ),
+    (
+        "the third gate names itself on the right",
+        [ADD, MUL, 1073741827, LAST],
+    ),
+    (
+        "the first gate's 10 ahead of the second's 8",
+        [2305843012434919429, OPCODE_3, SUB, LAST],
+    ),
+];
+
+fn with_region(region: &Region) -> [u64; 16] {
+    let mut memory = MEMORY;
+    memory[..8].copy_from_slice(region);
+    memory
 }
 
 pub fn results(rt: &impl Print) -> io::Result<()> {
-    with_cell(
-        rt,
-        b"P11, the listing, counts 2 2 2 1 1 0 from id 5 to 0",
-        0,
-        3,
-    )?;
-    with_cell(
-        rt,
-        b"P12, its last word Add of 1 and 2",
-        7,
-        2305843011361177601,
-    )?;
-    with_cells(
-        rt,
-        b"the last READ wire is zero, the last wire not",
-        2,
-        0,
-        7,
-        2305843012434919427,
-    )?;
-    with_cell(
-        rt,
-        b"the same total of counts, other counts",
-        5,
-        1152921509975556101,
-    )
+    for (case, region) in RESULTS {
+        evaluate(rt, case, LISTING, &with_region(region))?;
+    }
+    Ok(())
 }
 
+// The second copy of the circuit is at address 8.
 pub fn cells(rt: &impl Print) -> io::Result<()> {
-    with_cell(rt, b"the region's first cell is p", 0, P)?;
-    with_cell(rt, b"the region's last cell is p", 7, P)?;
-    with_cells(rt, b"cells 5 and 3 are p, the first counts", 5, P, 3, P)?;
-    with_cell(rt, b"a cell p - 1 passes", 0, P - 1)?;
-    with_cell(rt, b"p past the region passes", 8, P)?;
-    second_with_cell(rt, b"p before the region passes", 7, P)?;
-    second_with_cell(rt, b"the place of 7 is the address", 8, P)?;
-    short_with_cell(rt, b"6 ahead of 7", P)?;
-    with_cells(rt, b"7 ahead of 8", 4, OPCODE_3, 7, P)
+    for (case, region) in CELLS {
+        evaluate(rt, case, LISTING, &with_region(region))?;
+    }
+    let mut with_8 = MEMORY;
+    with_8[8] = P;
+    evaluate(rt, "p past the region passes", LISTING, &with_8)?;
+    let second = Call { ptr: 8, ..LISTING };
+    let mut with_7 = MEMORY;
+    with_7[7] = P;
+    evaluate(rt, "p before the region passes", second, &with_7)?;
+    evaluate(rt, "the place of 7 is the address", second, &with_8)?;
+    let short = Call {
+        lent: Lengths { nodes: 50, ..EXACT },
+        ..LISTING
+    };
+    let mut with_0 = MEMORY;
+    with_0[0] = P;
+    evaluate(rt, "6 ahead of 7", short, &with_0)?;
+    with_7[4] = OPCODE_3;
+    evaluate(rt, "7 ahead of 8", LISTING, &with_7)
 }
 
 pub fn gates(rt: &impl Print) -> io::Result<()> {
-    with_cell(rt, b"the first gate has opcode 3", 4, OPCODE_3)?;
-    with_cell(rt, b"the last gate has opcode 3", 7, OPCODE_3)?;
-    with_cell(rt, b"the second gate is p - 1", 5, P - 1)?;
-    with_cell(rt, b"8 ahead of 9", 4, 3458764513820540931)?;
-    with_cell(
-        rt,
-        b"the first gate names id 3, itself, on the left",
-        4,
-        2305843013508661251,
-    )?;
-    with_cell(
-        rt,
-        b"the first gate names id 6 on the left",
-        4,
-        2305843013508661254,
-    )?;
-    with_cell(
-        rt,
-        b"the first gate names id 2, a later one, on the left",
-        4,
-        2305843013508661250,
-    )?;
-    with_cell(
-        rt,
-        b"the last gate names itself on the left",
-        7,
-        1152921506754330624,
-    )?;
-    with_cell(rt, b"9 ahead of 10", 4, 2305843012434919427)?;
-    with_cell(
-        rt,
-        b"the first gate names id 3, itself, on the right",
-        4,
-        2305843012434919429,
-    )?;
-    with_cell(
-        rt,
-        b"the first gate names id 6 on the right",
-        4,
-        2305843015656144901,
-    )?;
-    with_cell(
-        rt,
-        b"the third gate names itself on the right",
-        6,
-        1073741827,
-    )?;
-    with_cells(
-        rt,
-        b"the first gate's 10 ahead of the second's 8",
-        4,
-        2305843012434919429,
-        5,
-        OPCODE_3,
-    )
+    for (case, gates) in GATES {
+        let mut memory = MEMORY;
+        memory[4..8].copy_from_slice(gates);
+        evaluate(rt, case, LISTING, &memory)?;
+    }
+    Ok(())
 }

@@ -2,10 +2,8 @@
 #![tactic(auto)]
 
 mod calls;
-mod cells;
 mod circuits;
 mod regions;
-mod say;
 
 use std::io;
 

@@ -1,107 +1,107 @@
 // What is refused before a cell is looked at: 1 to 6.
-use crate::calls::{cells_of_listing, evaluate, listing};
+use crate::calls::{Call, LISTING, MEMORY, evaluate};
 use std::io;
+use telling::buffers::Lengths;
+use telling::listing::{ONE_SHORT, WHOLE};
 
-fn asked(rt: &impl Print, case: &[u8], ptr: u64, num_vars: u64, num_eval: u64) -> io::Result<()> {
-    let mut call = listing();
-    call.ptr = ptr;
-    call.num_vars = num_vars;
-    call.num_eval = num_eval;
-    evaluate(rt, case, call, cells_of_listing())
-}
+// num_vars and num_eval.
+const SIZES: &[(&str, u64, u64)] = &[
+    ("counts 4 and 32764 pass 1, memory too small", 4, 32764),
+    ("counts 6 and 32764", 6, 32764),
+    ("counts 32769 and 0, size before evenness", 32769, 0),
+    ("counts 0 and 32769, 1 ahead of 2", 0, 32769),
+    ("counts 32768 and 0 pass 1 and 2", 32768, 0),
+    ("counts 0 and 32768 pass 1", 0, 32768),
+    ("the record's limit of wires", 2, 1073741821),
+    ("num_vars 2^32 + 2", (1 << 32) + 2, 4),
+    ("num_vars the largest u64, a whole sum", u64::MAX, 1),
+    ("num_eval the largest u64, a whole sum", 2, u64::MAX),
+    ("num_eval 2^32 + 4", 2, (1 << 32) + 4),
+];
 
-fn counted(rt: &impl Print, case: &[u8], num_vars: u64, num_eval: u64) -> io::Result<()> {
-    asked(rt, case, 0, num_vars, num_eval)
-}
+const COUNTS: &[(&str, u64, u64)] = &[
+    ("counts 3 and 5", 3, 5),
+    ("num_vars 0", 0, 4),
+    ("num_vars 1", 1, 4),
+    ("num_vars 3", 3, 4),
+    ("counts 0 and 0, 2 ahead of 3", 0, 0),
+    ("num_eval 0", 2, 0),
+    ("num_eval 3", 2, 3),
+    ("num_eval 5", 2, 5),
+    ("num_eval 6", 2, 6),
+    ("counts 4 and 4 pass 5, short buffers", 4, 4),
+    ("counts 4 and 8 pass 5, memory exact", 4, 8),
+    ("counts 4 and 12", 4, 12),
+];
 
-fn placed(rt: &impl Print, case: &[u8], ptr: u64, memory: usize) -> io::Result<()> {
-    let mut call = listing();
-    call.ptr = ptr;
-    call.memory = memory;
-    evaluate(rt, case, call, cells_of_listing())
-}
+// The pointer, and how many cells of memory are lent.
+const POINTERS: &[(&str, u64, usize)] = &[
+    ("ptr 1", 1, 16),
+    ("ptr 2", 2, 16),
+    ("ptr 3", 3, 16),
+    ("ptr 4, a region with other gates", 4, 16),
+    ("ptr 8, the circuit's second copy, memory exact", 8, 16),
+    ("ptr 8, memory one cell short", 8, 15),
+    ("ptr 12", 12, 16),
+    ("the largest ptr", u64::MAX, 16),
+    ("the largest multiple of 4, a whole sum", u64::MAX - 3, 16),
+    ("4 ahead of 5", 2, 0),
+    ("memory of 7 cells", 0, 7),
+    ("memory of 8 cells", 0, 8),
+    ("no memory", 0, 0),
+];
 
-fn lent(
-    rt: &impl Print,
-    case: &[u8],
-    memory: usize,
-    values: usize,
-    counts: usize,
-    nodes: usize,
-) -> io::Result<()> {
-    let mut call = listing();
-    call.memory = memory;
-    call.values = values;
-    call.counts = counts;
-    call.nodes = nodes;
-    evaluate(rt, case, call, cells_of_listing())
+fn counted(rt: &impl Print, cases: &[(&str, u64, u64)]) -> io::Result<()> {
+    for &(case, num_vars, num_eval) in cases {
+        let call = Call {
+            num_vars,
+            num_eval,
+            ..LISTING
+        };
+        evaluate(rt, case, call, &MEMORY)?;
+    }
+    Ok(())
 }
 
 pub fn sizes(rt: &impl Print) -> io::Result<()> {
-    counted(rt, b"counts 4 and 32764 pass 1, memory too small", 4, 32764)?;
-    counted(rt, b"counts 6 and 32764", 6, 32764)?;
-    counted(rt, b"counts 32769 and 0, size before evenness", 32769, 0)?;
-    counted(rt, b"counts 0 and 32769, 1 ahead of 2", 0, 32769)?;
-    counted(rt, b"counts 32768 and 0 pass 1 and 2", 32768, 0)?;
-    counted(rt, b"counts 0 and 32768 pass 1", 0, 32768)?;
-    counted(rt, b"the record's limit of wires", 2, 1073741821)?;
-    counted(rt, b"num_vars 2^32 + 2", 4294967298, 4)?;
-    counted(
-        rt,
-        b"num_vars the largest u64, a whole sum",
-        18446744073709551615,
-        1,
-    )?;
-    counted(
-        rt,
-        b"num_eval the largest u64, a whole sum",
-        2,
-        18446744073709551615,
-    )?;
-    counted(rt, b"num_eval 2^32 + 4", 2, 4294967300)
+    counted(rt, SIZES)
 }
 
 pub fn counts(rt: &impl Print) -> io::Result<()> {
-    counted(rt, b"counts 3 and 5", 3, 5)?;
-    counted(rt, b"num_vars 0", 0, 4)?;
-    counted(rt, b"num_vars 1", 1, 4)?;
-    counted(rt, b"num_vars 3", 3, 4)?;
-    counted(rt, b"counts 0 and 0, 2 ahead of 3", 0, 0)?;
-    counted(rt, b"num_eval 0", 2, 0)?;
-    counted(rt, b"num_eval 3", 2, 3)?;
-    counted(rt, b"num_eval 5", 2, 5)?;
-    counted(rt, b"num_eval 6", 2, 6)?;
-    counted(rt, b"counts 4 and 4 pass 5, short buffers", 4, 4)?;
-    counted(rt, b"counts 4 and 8 pass 5, memory exact", 4, 8)?;
-    counted(rt, b"counts 4 and 12", 4, 12)?;
-    asked(rt, b"3 ahead of 4", 2, 2, 5)
+    counted(rt, COUNTS)?;
+    let unaligned = Call {
+        ptr: 2,
+        num_eval: 5,
+        ..LISTING
+    };
+    evaluate(rt, "3 ahead of 4", unaligned, &MEMORY)
 }
 
 pub fn pointers(rt: &impl Print) -> io::Result<()> {
-    placed(rt, b"ptr 1", 1, 16)?;
-    placed(rt, b"ptr 2", 2, 16)?;
-    placed(rt, b"ptr 3", 3, 16)?;
-    placed(rt, b"ptr 4, a region with other gates", 4, 16)?;
-    placed(rt, b"ptr 8, the circuit's second copy, memory exact", 8, 16)?;
-    placed(rt, b"ptr 8, memory one cell short", 8, 15)?;
-    placed(rt, b"ptr 12", 12, 16)?;
-    placed(rt, b"the largest ptr", 18446744073709551615, 16)?;
-    placed(
-        rt,
-        b"the largest multiple of 4, a whole sum",
-        18446744073709551612,
-        16,
-    )?;
-    placed(rt, b"4 ahead of 5", 2, 0)?;
-    placed(rt, b"memory of 7 cells", 0, 7)?;
-    placed(rt, b"memory of 8 cells", 0, 8)?;
-    placed(rt, b"no memory", 0, 0)
+    for &(case, ptr, memory) in POINTERS {
+        let call = Call {
+            ptr,
+            memory,
+            ..LISTING
+        };
+        evaluate(rt, case, call, &MEMORY)?;
+    }
+    Ok(())
 }
 
 pub fn room(rt: &impl Print) -> io::Result<()> {
-    lent(rt, b"values one short", 16, 11, 6, 51)?;
-    lent(rt, b"counts one short", 16, 12, 5, 51)?;
-    lent(rt, b"nodes one short", 16, 12, 6, 50)?;
-    lent(rt, b"room to spare", 16, 14, 7, 52)?;
-    lent(rt, b"5 ahead of 6", 7, 0, 0, 0)
+    for &(case, lent) in ONE_SHORT {
+        evaluate(rt, case, Call { lent, ..LISTING }, &MEMORY)?;
+    }
+    let spare = Call {
+        lent: WHOLE,
+        ..LISTING
+    };
+    evaluate(rt, "room to spare", spare, &MEMORY)?;
+    let short = Call {
+        memory: 7,
+        lent: Lengths::NOTHING,
+        ..LISTING
+    };
+    evaluate(rt, "5 ahead of 6", short, &MEMORY)
 }

@@ -3,10 +3,7 @@
 #![tactic(auto)]
 
 mod asking;
-mod bytes;
 mod inputs;
-mod patch;
-mod say;
 
 use std::io;
 

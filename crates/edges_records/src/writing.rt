@@ -1,262 +1,154 @@
 // Record writer: "21, 19, 6, 17 (a used value or node cell, or id_next, p or more), then" "writer 24".
 // Every byte of the room is told, and of what lies behind the lent part.
-use crate::small::Lengths;
-use crate::{bytes, cells, say, small};
 use field::P;
-use numbers::WriteAnswer;
 use record::{write_into, write_state_into};
+use refusal::Refusal;
 use std::io;
+use telling::answers::Answer;
+use telling::buffers::{Buffers, Lengths};
+use telling::lists::{Bytes, Numbers};
+use telling::small::{BAD_COUNTS, BUFFERS, EXACT, FINISHED, HEADER, ONE_SHORT, STATES, WHOLE};
 use trace::{CircuitEvaluation, RecordHeader};
 
-fn told(rt: &impl Print, answer: WriteAnswer) -> io::Result<()> {
-    match answer {
-        WriteAnswer::Next(next) => {
-            say::accepted(rt)?;
-            say::number(rt, next as u64)
-        }
-        WriteAnswer::Refused(refusal, place) => say::refused(rt, refusal, place),
-    }
-}
-
-fn write_part(
-    rt: &impl Print,
-    header: RecordHeader,
-    lengths: Lengths,
-    values: &[u64],
-    counts: &[u32],
-    nodes: &[u64],
-    room: usize,
-    out: &mut [u8],
-) -> io::Result<()> {
-    let v = cells::least(lengths.values, values.len());
-    let c = cells::least(lengths.counts, counts.len());
-    let n = cells::least(lengths.nodes, nodes.len());
-    let r = cells::least(room, out.len());
-    told(
-        rt,
-        write_into(
-            header,
-            &values[0..v],
-            &counts[0..c],
-            &nodes[0..n],
-            &mut out[0..r],
-        ),
-    )
-}
-
-fn write_and_tell(
-    rt: &impl Print,
-    header: RecordHeader,
-    lengths: Lengths,
-    values: &[u64],
-    counts: &[u32],
-    nodes: &[u64],
-    room: usize,
-    out: &mut [u8],
-) -> io::Result<()> {
-    write_part(rt, header, lengths, values, counts, nodes, room, out)?;
-    bytes::tell(rt, out)?;
-    say::end(rt)
-}
-
 // Into the first `room` of 53 bytes.
+fn tell<F: FnOnce(&mut [u8]) -> Result<usize, Refusal>>(
+    rt: &impl Print,
+    call: &str,
+    case: &str,
+    room: usize,
+    write: F,
+) -> io::Result<()>
+    requires { F.IsAlwaysCallable write }
+{
+    let mut out = [0xee; 53];
+    let len = write(&mut out[..room.min(53)]);
+    let answer = Answer(len.map(|len| Numbers([len as u64])));
+    println!(rt; "{call}: {case} = {answer}{}", Bytes(&out))
+}
+
 fn write_over(
     rt: &impl Print,
-    case: &[u8],
+    case: &str,
     header: RecordHeader,
-    lengths: Lengths,
-    values: [u64; 7],
-    nodes: [u64; 19],
+    lent: Lengths,
+    buffers: Buffers<7, 4, 19>,
     room: usize,
 ) -> io::Result<()> {
-    say::name(rt, b"write_into", case)?;
-    let counts = small::counts();
-    let mut out = [0xeeu8; 53];
-    write_and_tell(
-        rt, header, lengths, &values, &counts, &nodes, room, &mut out,
-    )
+    tell(rt, "write_into", case, room, |out| {
+        write_into(
+            header,
+            &buffers.values[..lent.values.min(7)],
+            &buffers.counts[..lent.counts.min(4)],
+            &buffers.nodes[..lent.nodes.min(19)],
+            out,
+        )
+    })
 }
 
-fn counted(
+fn changed<F: FnOnce(&mut Buffers<7, 4, 19>)>(
     rt: &impl Print,
-    case: &[u8],
-    num_read: u32,
-    num_eval: u32,
-    id_next: u64,
-) -> io::Result<()> {
-    let header = small::header(num_read, num_eval, id_next);
-    let lengths = small::lent(6, 3, 18);
-    write_over(
-        rt,
-        case,
-        header,
-        lengths,
-        small::values(),
-        small::nodes(),
-        52,
-    )
-}
-
-fn lent(
-    rt: &impl Print,
-    case: &[u8],
-    id_next: u64,
-    values: usize,
-    counts: usize,
-    nodes: usize,
-) -> io::Result<()> {
-    let header = small::header(1, 1, id_next);
-    let lengths = small::lent(values, counts, nodes);
-    write_over(
-        rt,
-        case,
-        header,
-        lengths,
-        small::values(),
-        small::nodes(),
-        52,
-    )
-}
-
-fn with_value(
-    rt: &impl Print,
-    case: &[u8],
-    place: usize,
-    cell: u64,
+    case: &str,
     room: usize,
-) -> io::Result<()> {
-    let mut values = small::values();
-    if place < 7 {
-        values[place] = cell;
-    }
-    let header = small::header(1, 1, P - 1);
-    write_over(
-        rt,
-        case,
-        header,
-        small::lent(7, 4, 19),
-        values,
-        small::nodes(),
-        room,
-    )
-}
-
-fn with_node(rt: &impl Print, case: &[u8], place: usize, cell: u64) -> io::Result<()> {
-    let mut nodes = small::nodes();
-    if place < 19 {
-        nodes[place] = cell;
-    }
-    let header = small::header(1, 1, P - 1);
-    write_over(
-        rt,
-        case,
-        header,
-        small::lent(7, 4, 19),
-        small::values(),
-        nodes,
-        52,
-    )
+    change: F,
+) -> io::Result<()>
+    requires { F.IsAlwaysCallable change }
+{
+    let mut buffers = BUFFERS;
+    change(&mut buffers);
+    write_over(rt, case, HEADER, WHOLE, buffers, room)
 }
 
 pub fn records(rt: &impl Print) -> io::Result<()> {
-    counted(rt, b"the small record, room exact", 1, 1, P - 1)?;
-    with_value(rt, b"room one byte short", 0, 3, 51)?;
-    with_value(rt, b"room to spare", 0, 3, 53)?;
-    counted(rt, b"no READ node passes", 0, 1, 33)?;
-    counted(rt, b"no EVAL node", 1, 0, P - 1)?;
-    counted(rt, b"21 ahead of 19", 4294967295, 0, P - 1)?;
-    counted(rt, b"1073741824 wires", 536870911, 2, P - 1)?;
-    counted(
+    write_over(
         rt,
-        b"1073741823 wires pass 19, short buffers",
-        536870911,
-        1,
-        P - 1,
+        "the small record, room exact",
+        HEADER,
+        EXACT,
+        BUFFERS,
+        52,
     )?;
-    lent(rt, b"values one short", P - 1, 5, 3, 18)?;
-    lent(rt, b"counts one short", P - 1, 6, 2, 18)?;
-    lent(rt, b"nodes one short", P - 1, 6, 3, 17)?;
-    lent(rt, b"6 ahead of 17", P, 6, 3, 17)?;
-    lent(rt, b"id_next p", P, 6, 3, 18)?;
-    with_value(rt, b"a used value cell is p", 5, P, 52)?;
-    with_value(rt, b"p past the used value cells passes", 6, P, 52)?;
-    with_value(rt, b"17 ahead of 24", 0, P, 51)?;
-    with_node(rt, b"a used node cell is p", 17, P)?;
-    with_node(rt, b"p past the used node cells passes", 18, P)
+    write_over(rt, "room one byte short", HEADER, WHOLE, BUFFERS, 51)?;
+    write_over(rt, "room to spare", HEADER, WHOLE, BUFFERS, 53)?;
+    let no_read = RecordHeader {
+        num_read: 0,
+        id_next: 33,
+        ..HEADER
+    };
+    write_over(rt, "no READ node passes", no_read, EXACT, BUFFERS, 52)?;
+    for &(case, header) in BAD_COUNTS {
+        write_over(rt, case, header, EXACT, BUFFERS, 52)?;
+    }
+    for &(case, lent) in ONE_SHORT {
+        write_over(rt, case, HEADER, lent, BUFFERS, 52)?;
+    }
+    let no_element = RecordHeader {
+        id_next: P,
+        ..HEADER
+    };
+    let short = Lengths { nodes: 17, ..EXACT };
+    write_over(rt, "6 ahead of 17", no_element, short, BUFFERS, 52)?;
+    write_over(rt, "id_next p", no_element, EXACT, BUFFERS, 52)
 }
 
-fn write_state_part(
-    rt: &impl Print,
-    state: CircuitEvaluation,
-    lengths: Lengths,
-    values: &[u64],
-    counts: &[u32],
-    nodes: &[u64],
-    room: usize,
-    out: &mut [u8],
-) -> io::Result<()> {
-    let v = cells::least(lengths.values, values.len());
-    let c = cells::least(lengths.counts, counts.len());
-    let n = cells::least(lengths.nodes, nodes.len());
-    let r = cells::least(room, out.len());
-    told(
+pub fn cells(rt: &impl Print) -> io::Result<()> {
+    changed(
         rt,
-        write_state_into(
-            state,
-            &values[0..v],
-            &counts[0..c],
-            &nodes[0..n],
-            &mut out[0..r],
-        ),
+        "a used value cell is p",
+        52,
+        |buffers| buffers.values[5] = P,
+    )?;
+    changed(
+        rt,
+        "p past the used value cells passes",
+        52,
+        |buffers| buffers.values[6] = P,
+    )?;
+    changed(rt, "17 ahead of 24", 51, |buffers| buffers.values[0] = P)?;
+    changed(
+        rt,
+        "a used node cell is p",
+        52,
+        |buffers| buffers.nodes[17] = P,
+    )?;
+    changed(
+        rt,
+        "p past the used node cells passes",
+        52,
+        |buffers| buffers.nodes[18] = P,
     )
 }
 
-fn write_state_and_tell(
-    rt: &impl Print,
-    state: CircuitEvaluation,
-    lengths: Lengths,
-    values: &[u64],
-    counts: &[u32],
-    nodes: &[u64],
-    room: usize,
-    out: &mut [u8],
-) -> io::Result<()> {
-    write_state_part(rt, state, lengths, values, counts, nodes, room, out)?;
-    bytes::tell(rt, out)?;
-    say::end(rt)
-}
-
-// The small record from a step state, its last wire's first cell as given.
 fn from_state(
     rt: &impl Print,
-    case: &[u8],
+    case: &str,
     evals_done: u32,
     id_next: u64,
     last: u64,
     node_cells: usize,
     room: usize,
 ) -> io::Result<()> {
-    say::name(rt, b"write_state_into", case)?;
-    let mut values = small::values();
+    let state = CircuitEvaluation {
+        evals_done,
+        id_next,
+        ..FINISHED
+    };
+    let mut values = BUFFERS.values;
     values[4] = last;
-    let counts = small::counts();
-    let nodes = small::nodes();
-    let mut out = [0xeeu8; 53];
-    let state = small::state(evals_done, id_next);
-    let lengths = small::lent(6, 3, node_cells);
-    write_state_and_tell(rt, state, lengths, &values, &counts, &nodes, room, &mut out)
+    tell(rt, "write_state_into", case, room, |out| {
+        write_state_into(
+            state,
+            &values[..6],
+            &BUFFERS.counts[..3],
+            &BUFFERS.nodes[..node_cells.min(19)],
+            out,
+        )
+    })
 }
 
 pub fn from_states(rt: &impl Print) -> io::Result<()> {
-    from_state(rt, b"all steps are done", 1, P - 1, 0, 18, 52)?;
-    from_state(rt, b"12 is not asked", 1, P - 1, 5, 18, 52)?;
-    from_state(rt, b"the EVAL step lacks", 0, 0, 0, 18, 52)?;
-    from_state(rt, b"id_next 0 after all steps", 1, 0, 0, 18, 52)?;
-    from_state(rt, b"13 ahead of 11", 0, 1, 0, 18, 52)?;
-    from_state(rt, b"11 ahead of 6", 0, 0, 0, 17, 52)?;
-    from_state(rt, b"nodes one short", 1, P - 1, 0, 17, 52)?;
-    from_state(rt, b"6 ahead of 17", 1, P - 1, P, 17, 52)?;
-    from_state(rt, b"a used value cell is p", 1, P - 1, P, 18, 52)?;
-    from_state(rt, b"17 ahead of 24", 1, P - 1, P, 18, 51)?;
-    from_state(rt, b"room one byte short", 1, P - 1, 0, 18, 51)
+    for &(case, evals_done, id_next, last, node_cells) in STATES {
+        from_state(rt, case, evals_done, id_next, last, node_cells, 52)?;
+    }
+    from_state(rt, "17 ahead of 24", 1, P - 1, P, 18, 51)?;
+    from_state(rt, "room one byte short", 1, P - 1, 0, 18, 51)
 }

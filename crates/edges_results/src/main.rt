@@ -2,10 +2,7 @@
 // the parts before them.
 #![tactic(auto)]
 
-mod cells;
 mod results;
-mod say;
-mod states;
 mod tests;
 
 use std::io;
@@ -14,5 +11,6 @@ fn main(rt: HostRuntime) -> io::Result<()> {
     results::outputs(&rt)?;
     results::finished(&rt)?;
     tests::counts(&rt)?;
-    tests::cells_tested(&rt)
+    tests::room(&rt)?;
+    tests::cells(&rt)
 }

@@ -1,152 +1,112 @@
 // The result, "13, 6, 11, 12, changing nothing", and the header of a finished state.
-use crate::states::Lengths;
-use crate::{cells, say, states};
 use field::P;
 use std::io;
-use trace::{CircuitEvaluation, HeaderAnswer, OutputAnswer};
+use telling::answers::{Answer, Header};
+use telling::buffers::Lengths;
+use telling::listing::{EXACT, ONE_SHORT, OPENED, UNTOUCHED};
+use trace::CircuitEvaluation;
 
-// The values of the listing's wires, but for the second READ wire and the last wire.
-fn values_with(read_1: u64, v_0: u64, v_1: u64) -> [u64; 14] {
-    [3, 0, read_1, 0, 7, 0, 12, 0, 0, 0, v_0, v_1, 9, 9]
-}
+const FINISHED: CircuitEvaluation = CircuitEvaluation {
+    reads_done: 1,
+    evals_done: 4,
+    id_next: P - 1,
+    ..OPENED
+};
 
-fn output_part(
-    rt: &impl Print,
-    state: CircuitEvaluation,
-    lent: Lengths,
-    values: &[u64],
-    counts: &[u32],
-    nodes: &[u64],
-) -> io::Result<()> {
-    let v = cells::least(lent.values, values.len());
-    let c = cells::least(lent.counts, counts.len());
-    let n = cells::least(lent.nodes, nodes.len());
-    let answer = state.output_value(&values[0..v], &counts[0..c], &nodes[0..n]);
-    match answer {
-        OutputAnswer::Zero(header) => {
-            say::accepted(rt)?;
-            states::tell_header(rt, header)?;
-        }
-        OutputAnswer::Refused(refusal, place) => say::refused(rt, refusal, place)?,
-    }
-    say::end(rt)
-}
+const ONE_LACKS: CircuitEvaluation = CircuitEvaluation {
+    evals_done: 3,
+    id_next: 0,
+    ..FINISHED
+};
+
+// The first cell of the second READ wire, and the cells of the last wire.
+const VALUES: &[(&str, u64, [u64; 2])] = &[
+    ("the last wire is (0, 0)", 4, [0, 0]),
+    ("the last wire is (1, 0)", 4, [1, 0]),
+    ("the last wire is (0, 1)", 4, [0, 1]),
+    ("a stored (p, 0) is not (0, 0)", 4, [P, 0]),
+    ("the last READ wire is zero, the last wire not", 0, [1, 0]),
+];
+
+const STATES: &[(&str, CircuitEvaluation)] = &[
+    ("one EVAL step lacks", ONE_LACKS),
+    ("no step is done", OPENED),
+    (
+        "id_next 0 after all steps",
+        CircuitEvaluation {
+            id_next: 0,
+            ..FINISHED
+        },
+    ),
+    (
+        "a state with num_read 0",
+        CircuitEvaluation {
+            num_read: 0,
+            reads_done: 0,
+            ..FINISHED
+        },
+    ),
+];
+
+// The EVAL steps, those done, and the next id.
+const FINISHES: &[(&str, u32, u32, u64)] = &[
+    ("all steps are done", 4, 4, P - 1),
+    ("one EVAL step lacks", 4, 3, 0),
+    ("only the READ step is done", 4, 0, 3),
+    ("13 ahead of 11", 4, 3, 1),
+    ("more EVAL steps than num_eval", 4, 5, P - 2),
+    ("a state of 32769 wires", 32767, 32767, P - 1),
+];
 
 fn output(
     rt: &impl Print,
-    case: &[u8],
+    case: &str,
     state: CircuitEvaluation,
     lent: Lengths,
-    values: [u64; 14],
+    read_1: u64,
+    last: [u64; 2],
 ) -> io::Result<()> {
-    say::name(rt, b"output_value", case)?;
-    let counts = [cells::COUNT_CANARY; 7];
-    let nodes = [cells::CANARY; 52];
-    output_part(rt, state, lent, &values, &counts, &nodes)
-}
-
-// All steps done, over exact room.
-fn done(rt: &impl Print, case: &[u8], read_1: u64, v_0: u64, v_1: u64) -> io::Result<()> {
-    let values = values_with(read_1, v_0, v_1);
-    output(
-        rt,
-        case,
-        states::state(1, 4, P - 1),
-        states::exact(),
-        values,
-    )
-}
-
-fn after(
-    rt: &impl Print,
-    case: &[u8],
-    reads_done: u32,
-    evals_done: u32,
-    id_next: u64,
-    last: u64,
-) -> io::Result<()> {
-    let state = states::state(reads_done, evals_done, id_next);
-    output(rt, case, state, states::exact(), values_with(4, last, 0))
-}
-
-fn lent(
-    rt: &impl Print,
-    case: &[u8],
-    evals_done: u32,
-    id_next: u64,
-    values: usize,
-    counts: usize,
-    nodes: usize,
-) -> io::Result<()> {
-    let lengths = states::lent(values, counts, nodes);
-    output(
-        rt,
-        case,
-        states::state(1, evals_done, id_next),
-        lengths,
-        values_with(4, 0, 0),
-    )
-}
-
-fn no_reads(rt: &impl Print, case: &[u8]) -> io::Result<()> {
-    output(
-        rt,
-        case,
-        states::state_of(0, 4, 0, 4, P - 1),
-        states::exact(),
-        values_with(4, 0, 0),
-    )
-}
-
-fn finish(
-    rt: &impl Print,
-    case: &[u8],
-    num_eval: u32,
-    evals_done: u32,
-    id_next: u64,
-) -> io::Result<()> {
-    say::name(rt, b"finalized", case)?;
-    let state = states::state_of(1, num_eval, 1, evals_done, id_next);
-    let answer = state.finalized();
-    match answer {
-        HeaderAnswer::Header(header) => {
-            say::accepted(rt)?;
-            states::tell_header(rt, header)?;
-        }
-        HeaderAnswer::Refused(refusal, place) => say::refused(rt, refusal, place)?,
-    }
-    say::end(rt)
+    let values = [3, 0, read_1, 0, 7, 0, 12, 0, 0, 0, last[0], last[1], 9, 9];
+    let output = state.output_value(
+        &values[..lent.values.min(14)],
+        &UNTOUCHED.counts[..lent.counts.min(7)],
+        &UNTOUCHED.nodes[..lent.nodes.min(52)],
+    );
+    println!(rt; "output_value: {case} = {}", Answer(output.map(Header)))
 }
 
 pub fn outputs(rt: &impl Print) -> io::Result<()> {
-    done(rt, b"the last wire is (0, 0)", 4, 0, 0)?;
-    done(rt, b"the last wire is (1, 0)", 4, 1, 0)?;
-    done(rt, b"the last wire is (0, 1)", 4, 0, 1)?;
-    done(rt, b"a stored (p, 0) is not (0, 0)", 4, P, 0)?;
-    done(
-        rt,
-        b"the last READ wire is zero, the last wire not",
-        0,
-        1,
-        0,
-    )?;
-    after(rt, b"one EVAL step lacks", 1, 3, 0, 0)?;
-    after(rt, b"no step is done", 0, 0, 5, 0)?;
-    after(rt, b"id_next 0 after all steps", 1, 4, 0, 0)?;
-    no_reads(rt, b"a state with num_read 0")?;
-    lent(rt, b"values one short", 4, P - 1, 11, 6, 51)?;
-    lent(rt, b"counts one short", 4, P - 1, 12, 5, 51)?;
-    lent(rt, b"nodes one short", 4, P - 1, 12, 6, 50)?;
-    lent(rt, b"13 ahead of 6", 4, 0, 0, 0, 0)?;
-    lent(rt, b"6 ahead of 11", 3, 0, 12, 6, 50)?;
-    after(rt, b"11 ahead of 12", 1, 3, 0, 1)
+    for &(case, read_1, last) in VALUES {
+        output(rt, case, FINISHED, EXACT, read_1, last)?;
+    }
+    for &(case, state) in STATES {
+        output(rt, case, state, EXACT, 4, [0, 0])?;
+    }
+    for &(case, lent) in ONE_SHORT {
+        output(rt, case, FINISHED, lent, 4, [0, 0])?;
+    }
+    let unsound = CircuitEvaluation {
+        id_next: 0,
+        ..FINISHED
+    };
+    output(rt, "13 ahead of 6", unsound, Lengths::NOTHING, 4, [0, 0])?;
+    let short = Lengths { nodes: 50, ..EXACT };
+    output(rt, "6 ahead of 11", ONE_LACKS, short, 4, [0, 0])?;
+    output(rt, "11 ahead of 12", ONE_LACKS, EXACT, 4, [1, 0])
 }
 
 pub fn finished(rt: &impl Print) -> io::Result<()> {
-    finish(rt, b"all steps are done", 4, 4, P - 1)?;
-    finish(rt, b"one EVAL step lacks", 4, 3, 0)?;
-    finish(rt, b"only the READ step is done", 4, 0, 3)?;
-    finish(rt, b"13 ahead of 11", 4, 3, 1)?;
-    finish(rt, b"more EVAL steps than num_eval", 4, 5, P - 2)?;
-    finish(rt, b"a state of 32769 wires", 32767, 32767, P - 1)
+    for &(case, num_eval, evals_done, id_next) in FINISHES {
+        let state = CircuitEvaluation {
+            num_eval,
+            evals_done,
+            id_next,
+            ..FINISHED
+        };
+        println!(rt;
+            "finalized: {case} = {}",
+            Answer(state.finalized().map(Header))
+        )?;
+    }
+    Ok(())
 }

@@ -1,138 +1,133 @@
 // What fill and writer ask of a record: "21, 19, 6, 17 (a used value or node cell, or id_next, p or
 // more)".
-use crate::states::Lengths;
-use crate::{cells, say, states};
 use field::P;
 use std::io;
-use trace::{RecordHeader, Tested};
+use telling::answers::Answer;
+use telling::buffers::{Buffers, Lengths};
+use telling::listing::{EXACT, ONE_SHORT, UNTOUCHED, WHOLE};
+use telling::lists::Numbers;
+use trace::RecordHeader;
 
-fn test_part(
+const HEADER: RecordHeader = RecordHeader {
+    ctx: 0,
+    clk: 7,
+    num_read: 1,
+    num_eval: 4,
+    id_next: P - 1,
+};
+
+const BUFFERS: Buffers<14, 7, 52> = Buffers {
+    counts: [u32::MAX; 7],
+    ..UNTOUCHED
+};
+
+const COUNTS: &[(&str, u32, u32)] = &[
+    ("counts 1 and 4, any ids", 1, 4),
+    ("no READ node passes", 0, 4),
+    ("no EVAL node", 1, 0),
+    ("no node at all", 0, 0),
+    ("21 ahead of 19", u32::MAX, 0),
+    ("1073741823 wires pass 19, short buffers", 536870911, 1),
+    ("1073741824 wires", 536870911, 2),
+    (
+        "1073741823 EVAL nodes pass 19, short buffers",
+        0,
+        1073741823,
+    ),
+    ("1073741824 EVAL nodes", 0, 1073741824),
+    ("the largest counts", u32::MAX, u32::MAX),
+    ("32769 wires pass 19, short buffers", 1, 32767),
+];
+
+const IDS: &[(&str, u64, Lengths)] = &[
+    ("6 ahead of 17", P, Lengths { nodes: 50, ..EXACT }),
+    ("id_next p", P, EXACT),
+    ("any id_next below p passes", 77, EXACT),
+];
+
+fn test(
     rt: &impl Print,
+    case: &str,
     header: RecordHeader,
     lent: Lengths,
-    values: &[u64],
-    counts: &[u32],
-    nodes: &[u64],
+    buffers: &Buffers<14, 7, 52>,
 ) -> io::Result<()> {
-    let v = cells::least(lent.values, values.len());
-    let c = cells::least(lent.counts, counts.len());
-    let n = cells::least(lent.nodes, nodes.len());
-    let answer = header.test(&values[0..v], &counts[0..c], &nodes[0..n]);
-    match answer {
-        Tested::Passed => say::accepted(rt)?,
-        Tested::Refused(refusal, place) => say::refused(rt, refusal, place)?,
-    }
-    say::end(rt)
+    let tested = header.test(
+        &buffers.values[..lent.values.min(14)],
+        &buffers.counts[..lent.counts.min(7)],
+        &buffers.nodes[..lent.nodes.min(52)],
+    );
+    println!(rt; "test: {case} = {}", Answer(tested.map(|()| Numbers([]))))
 }
 
-fn test_over(
+fn changed<F: FnOnce(&mut Buffers<14, 7, 52>)>(
     rt: &impl Print,
-    case: &[u8],
-    header: RecordHeader,
-    lent: Lengths,
-    values: [u64; 14],
-    nodes: [u64; 52],
-) -> io::Result<()> {
-    say::name(rt, b"test", case)?;
-    let counts = [4294967295u32; 7];
-    test_part(rt, header, lent, &values, &counts, &nodes)
-}
-
-fn test(rt: &impl Print, case: &[u8], header: RecordHeader, lent: Lengths) -> io::Result<()> {
-    test_over(
-        rt,
-        case,
-        header,
-        lent,
-        [cells::CANARY; 14],
-        [cells::CANARY; 52],
-    )
-}
-
-fn counted(rt: &impl Print, case: &[u8], num_read: u32, num_eval: u32) -> io::Result<()> {
-    test(
-        rt,
-        case,
-        states::header_of(num_read, num_eval, P - 1),
-        states::exact(),
-    )
-}
-
-fn lent(
-    rt: &impl Print,
-    case: &[u8],
-    id_next: u64,
-    values: usize,
-    counts: usize,
-    nodes: usize,
-) -> io::Result<()> {
-    let lengths = states::lent(values, counts, nodes);
-    test(rt, case, states::header_of(1, 4, id_next), lengths)
-}
-
-fn with_value(rt: &impl Print, case: &[u8], at: usize, cell: u64) -> io::Result<()> {
-    let mut values = [cells::CANARY; 14];
-    if at < 14 {
-        values[at] = cell;
-    }
-    let header = states::header_of(1, 4, P - 1);
-    test_over(
-        rt,
-        case,
-        header,
-        states::lent(14, 7, 52),
-        values,
-        [cells::CANARY; 52],
-    )
-}
-
-fn with_node(rt: &impl Print, case: &[u8], at: usize, cell: u64) -> io::Result<()> {
-    let mut nodes = [cells::CANARY; 52];
-    if at < 52 {
-        nodes[at] = cell;
-    }
-    let header = states::header_of(1, 4, P - 1);
-    test_over(
-        rt,
-        case,
-        header,
-        states::lent(14, 7, 52),
-        [cells::CANARY; 14],
-        nodes,
-    )
+    case: &str,
+    change: F,
+) -> io::Result<()>
+    requires { F.IsAlwaysCallable change }
+{
+    let mut buffers = BUFFERS;
+    change(&mut buffers);
+    test(rt, case, HEADER, WHOLE, &buffers)
 }
 
 pub fn counts(rt: &impl Print) -> io::Result<()> {
-    counted(rt, b"counts 1 and 4, any ids", 1, 4)?;
-    counted(rt, b"no READ node passes", 0, 4)?;
-    counted(rt, b"no EVAL node", 1, 0)?;
-    counted(rt, b"no node at all", 0, 0)?;
-    counted(rt, b"21 ahead of 19", 4294967295, 0)?;
-    counted(rt, b"1073741823 wires pass 19, short buffers", 536870911, 1)?;
-    counted(rt, b"1073741824 wires", 536870911, 2)?;
-    counted(
-        rt,
-        b"1073741823 EVAL nodes pass 19, short buffers",
-        0,
-        1073741823,
-    )?;
-    counted(rt, b"1073741824 EVAL nodes", 0, 1073741824)?;
-    counted(rt, b"the largest counts", 4294967295, 4294967295)?;
-    counted(rt, b"32769 wires pass 19, short buffers", 1, 32767)
+    for &(case, num_read, num_eval) in COUNTS {
+        let header = RecordHeader {
+            num_read,
+            num_eval,
+            ..HEADER
+        };
+        test(rt, case, header, EXACT, &BUFFERS)?;
+    }
+    Ok(())
 }
 
-pub fn cells_tested(rt: &impl Print) -> io::Result<()> {
-    lent(rt, b"values one short", P - 1, 11, 6, 51)?;
-    lent(rt, b"counts one short", P - 1, 12, 5, 51)?;
-    lent(rt, b"nodes one short", P - 1, 12, 6, 50)?;
-    lent(rt, b"6 ahead of 17", P, 12, 6, 50)?;
-    lent(rt, b"id_next p", P, 12, 6, 51)?;
-    lent(rt, b"any id_next below p passes", 77, 12, 6, 51)?;
-    with_value(rt, b"the first value cell is p", 0, P)?;
-    with_value(rt, b"the last used value cell is p", 11, P)?;
-    with_value(rt, b"p past the used value cells passes", 12, P)?;
-    with_value(rt, b"a value cell p - 1 passes", 11, P - 1)?;
-    with_node(rt, b"the first node cell is p", 0, P)?;
-    with_node(rt, b"the last used node cell is p", 50, P)?;
-    with_node(rt, b"p past the used node cells passes", 51, P)
+pub fn room(rt: &impl Print) -> io::Result<()> {
+    for &(case, lent) in ONE_SHORT {
+        test(rt, case, HEADER, lent, &BUFFERS)?;
+    }
+    for &(case, id_next, lent) in IDS {
+        test(rt, case, RecordHeader { id_next, ..HEADER }, lent, &BUFFERS)?;
+    }
+    Ok(())
+}
+
+pub fn cells(rt: &impl Print) -> io::Result<()> {
+    changed(
+        rt,
+        "the first value cell is p",
+        |buffers| buffers.values[0] = P,
+    )?;
+    changed(
+        rt,
+        "the last used value cell is p",
+        |buffers| buffers.values[11] = P,
+    )?;
+    changed(
+        rt,
+        "p past the used value cells passes",
+        |buffers| buffers.values[12] = P,
+    )?;
+    changed(
+        rt,
+        "a value cell p - 1 passes",
+        |buffers| buffers.values[11] = P - 1,
+    )?;
+    changed(
+        rt,
+        "the first node cell is p",
+        |buffers| buffers.nodes[0] = P,
+    )?;
+    changed(
+        rt,
+        "the last used node cell is p",
+        |buffers| buffers.nodes[50] = P,
+    )?;
+    changed(
+        rt,
+        "p past the used node cells passes",
+        |buffers| buffers.nodes[51] = P,
+    )
 }

@@ -4,7 +4,6 @@
 mod adding;
 mod asking;
 mod lists;
-mod say;
 
 use std::io;
 

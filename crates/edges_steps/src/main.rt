@@ -3,12 +3,10 @@
 // one or two more behind it.
 #![tactic(auto)]
 
-mod cells;
 mod gates;
 mod opening;
 mod reading;
-mod say;
-mod states;
+mod steps;
 
 use std::io;
 

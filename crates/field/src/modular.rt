@@ -32,7 +32,7 @@ impl Model for Felt {
 impl Felt {
     // Each is a less some number, which is chosen first: so put, compilers make no branch of the choice, at which a
     // processor would often guess wrong.
-    pub fn add_or_sub(self, less: bool, rhs: Felt) -> Felt
+    pub(crate) fn add_or_sub(self, less: bool, rhs: Felt) -> Felt
         ensures { result ≡ (if less then sub_f self rhs else add_f self rhs) }
     {
         let (a, b) = (self.value, rhs.value);

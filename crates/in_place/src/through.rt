@@ -8,10 +8,11 @@ ghost use Rattle.trace.specs.Record.{tested_told};
 ghost use Rattle.in_place.specs.InPlace.{open_step};
 
 use crate::{Stepped, eval_in_place, new_in_place, output_in_place, read_in_place};
-use trace::{CircuitEvaluation, OutputAnswer};
+use refusal::Refusal;
+use trace::{CircuitEvaluation, RecordHeader};
 
 pub fn new(
-    state: CircuitEvaluation,
+    mut state: CircuitEvaluation,
     ctx: u32,
     clk: u32,
     num_read: u32,
@@ -22,16 +23,14 @@ pub fn new(
 ) -> Stepped
     ensures { outcome (tested_told result.told) result.state (lent values.now counts.now nodes.now) ≡ open_step state ctx clk num_read num_eval (lent values.now counts.now nodes.now) }
 {
-    let mut s = state;
-    let told = new_in_place(&mut s, ctx, clk, num_read, num_eval, values, counts, nodes);
-    Stepped {
-        state: s,
-        told: told,
-    }
+    let told = new_in_place(
+        &mut state, ctx, clk, num_read, num_eval, values, counts, nodes,
+    );
+    Stepped { state, told }
 }
 
 pub fn do_read(
-    state: CircuitEvaluation,
+    mut state: CircuitEvaluation,
     ptr: u64,
     word: [[u64; 2]; 2],
     values: &mut [u64],
@@ -40,16 +39,12 @@ pub fn do_read(
 ) -> Stepped
     ensures { outcome (tested_told result.told) result.state (lent values.new counts.new nodes.new) ≡ read_step state ptr word (lent values.old counts.old nodes.old) }
 {
-    let mut s = state;
-    let told = read_in_place(&mut s, ptr, word, values, counts, nodes);
-    Stepped {
-        state: s,
-        told: told,
-    }
+    let told = read_in_place(&mut state, ptr, word, values, counts, nodes);
+    Stepped { state, told }
 }
 
 pub fn do_eval(
-    state: CircuitEvaluation,
+    mut state: CircuitEvaluation,
     ptr: u64,
     instruction: u64,
     values: &mut [u64],
@@ -58,12 +53,8 @@ pub fn do_eval(
 ) -> Stepped
     ensures { outcome (tested_told result.told) result.state (lent values.new counts.new nodes.new) ≡ eval_step state ptr instruction (lent values.old counts.old nodes.old) }
 {
-    let mut s = state;
-    let told = eval_in_place(&mut s, ptr, instruction, values, counts, nodes);
-    Stepped {
-        state: s,
-        told: told,
-    }
+    let told = eval_in_place(&mut state, ptr, instruction, values, counts, nodes);
+    Stepped { state, told }
 }
 
 pub fn output_value(
@@ -71,9 +62,8 @@ pub fn output_value(
     values: &[u64],
     counts: &[u32],
     nodes: &[u64],
-) -> OutputAnswer
+) -> Result<RecordHeader, Refusal>
     ensures { output_told result ≡ output_answer state (lent values.now counts.now nodes.now) }
 {
-    let s = state;
-    output_in_place(&s, values, counts, nodes)
+    output_in_place(&state, values, counts, nodes)
 }

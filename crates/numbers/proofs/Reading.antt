@@ -4,18 +4,13 @@ use Prim.Native.Nat.{ℕ, suc, ◌+◌, ◌-◌, ◌*◌, ◌^◌, ◌≤◌, �
 use mathlib.Core.Path.{◌≡◌, refl, sym, ap, ap₂, ◌∙◌}
 use mathlib.Core.Logic.{⊎_elim}
 use mathlib.Core.Bool.{true, false}
-use mathlib.Core.List.{List, [], ◌∷◌}
+use mathlib.Core.List.{List, ◌∷◌}
 use native.Mathlib.Nat.{add-mul, mul_comm, mul_assoc, mul-le-mul_right}
 use native.Mathlib.Numerals.{add-one}
 use native.Mathlib.Omega.{arith}
 use lib.ListN.{length, get_or, drop, drop_of_length-le}
 use lib.Pow.{pow-add, pow_mono}
-use lib.Seq.{drop-cons}
-use Rattle.std.specs.Option.{UnwrapsOrElse}
-use Rattle.std.specs.Slice.{IsGetRangeResult}
-use Rattle.std.proofs.lemmas.Slice.{between_to_end}
-use Rattle.std.proofs.Common.{Bor, None, Some}
-use Rattle.std.specs.Prelude.{Option}
+use lib.Seq.{drop-cons, drop-drop}
 use Rattle.numbers.specs.Answer.{found_at, read_answer}
 use Rattle.field.proofs.Cases.{below?}
 use Rattle.numbers.specs.Form.{Found, found, cut_off, not_shortest, under, ill_formed, find_from}
@@ -35,12 +30,26 @@ join_under value scale n b (found v k) =
 join_under value scale n b cut_off = refl
 join_under value scale n b not_shortest = refl
 
+join_start : (g : Found) → join 0 1 0 g ≡ g
+join_start (found v k) = ap₂ found (omega arith) (omega arith)
+join_start cut_off = refl
+join_start not_shortest = refl
+
 -- the first n bytes are read, and none of them is the last
 pub record Reading (t : List ℕ) (value scale n : ℕ) : Type 0 where
   pub most : n ≤ 9
   pub unit : scale ≡ 2 ^ (7 * n)
   pub low : value < scale
   pub rest : join value scale n (find_from n (drop n t)) ≡ find_from 0 t
+
+pub reading_start : (t : List ℕ) (n : ℕ) → n ≡ 0 → Reading t 0 1 n
+reading_start t n e =
+    record {
+      most = omega arith;
+      unit = ap (λ (k : ℕ). 2 ^ (7 * k)) (sym e);
+      low = omega arith;
+      rest = ap (λ (k : ℕ). join 0 1 k (find_from k (drop k t))) e ∙ join_start (find_from 0 t);
+    }
 
 module _ {t : List ℕ} {value scale n : ℕ} (r : Reading t value scale n) where
   -- the bytes end
@@ -53,28 +62,24 @@ module _ {t : List ℕ} {value scale n : ℕ} (r : Reading t value scale n) wher
   tenth : 9 ≤ n → scale ≡ 2 ^ 63
   tenth l = let e : n ≡ 9 = omega (arith, r.most) in r.unit ∙ ap (λ (k : ℕ). 2 ^ (7 * k)) e
 
-  head : n < length t → (g : Found) → find_from n (get_or t n 0 ∷ drop (suc n) t) ≡ g → join value scale n g ≡ find_from 0 t
-  head h g e = ap (join value scale n) (sym e ∙ ap (find_from n) (sym (drop-cons t n 0 h))) ∙ r.rest
+  head : {b : ℕ} {rest : List ℕ} → drop n t ≡ b ∷ rest → (g : Found) → find_from n (b ∷ rest) ≡ g → join value scale n g ≡ find_from 0 t
+  head h g e = ap (join value scale n) (sym e ∙ ap (find_from n) (sym h)) ∙ r.rest
 
-  -- the next byte is in no good form
-  pub read_ill : n < length t → ill_formed n (get_or t n 0) ≡ true → not_shortest ≡ find_from 0 t
-  read_ill h e = head h not_shortest (find_ill n (get_or t n 0) (drop (suc n) t) e)
+-- b is the next byte, which is in no good form
+pub read_ill : {t : List ℕ} {value scale n b : ℕ} → Reading t value scale n → drop n t ≡ b ∷ drop (n + 1) t → ill_formed n b ≡ true → not_shortest ≡ find_from 0 t
+read_ill {t} {value} {scale} {n} {b} r h e = head r h not_shortest (find_ill n b (drop (n + 1) t) e)
 
--- the next byte is in good form
-pub record Passed (t : List ℕ) (value scale n : ℕ) : Type 0 where
+-- it is in good form
+pub record Passed (t : List ℕ) (value scale n b : ℕ) : Type 0 where
   pub reading : Reading t value scale n
-  pub inside : n < length t
-  pub byte : get_or t n 0 < 256
-  pub good : ill_formed n (get_or t n 0) ≡ false
+  pub next : drop n t ≡ b ∷ drop (n + 1) t
+  pub byte : b < 256
+  pub good : ill_formed n b ≡ false
 
-pub passed : {t : List ℕ} {value scale n : ℕ} → Reading t value scale n → n < length t → get_or t n 0 < 256 → ill_formed n (get_or t n 0) ≡ false
-    → Passed t value scale n
-passed r h b e = record { reading = r; inside = h; byte = b; good = e }
+pub passed : {t : List ℕ} {value scale n b : ℕ} → Reading t value scale n → drop n t ≡ b ∷ drop (n + 1) t → b < 256 → ill_formed n b ≡ false → Passed t value scale n b
+passed r h k e = record { reading = r; next = h; byte = k; good = e }
 
-module _ {t : List ℕ} {value scale n : ℕ} (p : Passed t value scale n) where
-  abbrev b : ℕ
-  b = get_or t n 0
-
+module _ {t : List ℕ} {value scale n b : ℕ} (p : Passed t value scale n b) where
   well : WellFormed n b
   well = in_good_form n b p.good
 
@@ -88,7 +93,7 @@ module _ {t : List ℕ} {value scale n : ℕ} (p : Passed t value scale n) where
       (below? n 9)
 
   pub read_last : b < 128 → found (value + b * scale) (n + 1) ≡ find_from 0 t
-  read_last l = head p.reading p.inside (found b 1) (find_last n b (drop (suc n) t) p.good l)
+  read_last l = head p.reading p.next (found b 1) (find_last n b (drop (n + 1) t) p.good l)
 
   -- it is not the last
   not-tenth : 128 ≤ b → n < 9
@@ -100,27 +105,32 @@ module _ {t : List ℕ} {value scale n : ℕ} (p : Passed t value scale n) where
   pub more_fits : 128 ≤ b → value + (b - 128) * scale < scale * 128
   more_fits l = omega (arith, p.byte, p.reading.low, mul-le-mul_right {m = b - 128} {n = 127} scale (omega (arith, p.byte)))
 
-  pub read_next : 128 ≤ b → Reading t (value + (b - 128) * scale) (scale * 128) (n + 1)
-  read_next l =
-      let k : 7 * (n + 1) ≡ 7 * n + 7 = omega arith in
-      let u : 2 ^ (7 * (n + 1)) ≡ 2 ^ (7 * n) * 128 = ap (λ (j : ℕ). 2 ^ j) k ∙ pow-add 2 (7 * n) 7 in
+  pub read_next : (m : ℕ) → m ≡ n + 1 → 128 ≤ b → Reading t (value + (b - 128) * scale) (scale * 128) m
+  read_next m e l =
+      let k : 7 * m ≡ 7 * n + 7 = omega arith in
+      let u : 2 ^ (7 * m) ≡ 2 ^ (7 * n) * 128 = ap (λ (j : ℕ). 2 ^ j) k ∙ pow-add 2 (7 * n) 7 in
+      let f : find_from n (b ∷ drop (n + 1) t) ≡ under b (find_from (n + 1) (drop (n + 1) t)) =
+      find_more n b (drop (n + 1) t) p.good l ∙ ap (λ (j : ℕ). under b (find_from j (drop (n + 1) t))) (sym (add-one n)) in
       record {
         most = omega (arith, not-tenth l);
         unit = omega (arith, p.reading.unit, u);
         low = more_fits l;
         rest =
-            ap (λ (k : ℕ). join (value + (b - 128) * scale) (scale * 128) (n + 1) (find_from k (drop k t))) (add-one n)
-            ∙ sym (join_under value scale n b (find_from (suc n) (drop (suc n) t)))
-            ∙ head p.reading p.inside (under b (find_from (suc n) (drop (suc n) t))) (find_more n b (drop (suc n) t) p.good l);
+            ap (λ (j : ℕ). join (value + (b - 128) * scale) (scale * 128) j (find_from j (drop j t))) e
+            ∙ sym (join_under value scale n b (find_from (n + 1) (drop (n + 1) t)))
+            ∙ head p.reading p.next (under b (find_from (n + 1) (drop (n + 1) t))) f;
       }
 
--- the bytes from at on; none, where there are fewer
-tail_is : (s : List ℕ) (at : ℕ) (r : Option (Bor (List ℕ))) (t : Bor (List ℕ)) → IsGetRangeResult s at (length s) r → UnwrapsOrElse r (λ x. x.now ≡ []) t
-    → t.now ≡ drop at s
-tail_is s at None t (p, _) u = u ∙ sym (drop_of_length-le s (⊎_elim (λ l. omega arith) (λ l. absurd (omega arith)) p))
-tail_is s at (Some x) t ((_, _, e, _), _) u = ap (λ (y : Bor (List ℕ)). y.now) u ∙ e ∙ between_to_end s at (length s) (omega arith)
+-- the byte at i, of those from at on
+pub next_byte : (s : List ℕ) (at i : ℕ) → at ≤ i → i < length s → drop (i - at) (drop at s) ≡ get_or s i 0 ∷ drop (i - at + 1) (drop at s)
+next_byte s at i h l =
+    let here : at + (i - at) ≡ i = omega arith in
+    let next : suc i ≡ at + (i - at + 1) = omega arith in
+    drop-drop (i - at) at s
+    ∙ ap (λ (k : ℕ). drop k s) here
+    ∙ drop-cons s i 0 l
+    ∙ ap (λ (r : List ℕ). get_or s i 0 ∷ r) (ap (λ (k : ℕ). drop k s) next ∙ sym (drop-drop (i - at + 1) at s))
 
-pub answer_from : (s : List ℕ) (at : ℕ) (r : Option (Bor (List ℕ))) (t : Bor (List ℕ)) {g : Found} → IsGetRangeResult s at (length s) r
-    → UnwrapsOrElse r (λ x. x.now ≡ []) t → g ≡ find_from 0 t.now → found_at at g ≡ read_answer s at
+pub answer_from : (s : List ℕ) (at : ℕ) {g : Found} → g ≡ find_from 0 (drop at s) → found_at at g ≡ read_answer s at
 unfolding read_answer
-answer_from s at r t l u e = ap (found_at at) (e ∙ ap (find_from 0) (tail_is s at r t l u))
+answer_from s at e = ap (found_at at) e

@@ -9,7 +9,9 @@ use lib.ListN.{length}
 use Rattle.refusal.specs.Told.{Told, accepted, refused}
 use Rattle.trace.specs.declared.RecordHeader.{RecordHeader}
 use Rattle.trace.specs.Outcome.{Lent}
-use Rattle.trace.specs.declared.OutputAnswer.{OutputAnswer}
+use Rattle.std.proofs.Common.{Result}
+use Rattle.refusal.specs.declared.Refusal.{Refusal}
+use Rattle.trace.specs.declared.RecordHeader.{RecordHeader}
 use Rattle.trace.specs.Output.{header_numbers, output_told}
 use Rattle.trace.specs.Record.{record_wires}
 use Rattle.eval_circuit.specs.Evaluated.{circuit_at, eval_answer, eval_buffers}
@@ -25,7 +27,7 @@ use Rattle.program.specs.Inside.{no_rows, Fits, record_text, eval_text}
 use Rattle.program.proofs.Inputs.{room_enough}
 
 -- an answer that a call promised, and that turned out to be x
-pub told : {r x : OutputAnswer} {t : Told} → output_told r ≡ t → r ≡ x → t ≡ output_told x
+pub told : {r x : Result RecordHeader Refusal} {t : Told} → output_told r ≡ t → r ≡ x → t ≡ output_told x
 told e f = sym e ∙ ap output_told f
 
 module _ (ctx clk ptr num-vars num-eval : ℕ) (memory : List ℕ) where

@@ -4,17 +4,17 @@ use Prim.Native.Nat.{ℕ, ◌^◌}
 use mathlib.Core.Path.{◌≡◌, refl, sym, ap, ap₂, ◌∙◌}
 use mathlib.Core.List.{List, [], ◌∷◌}
 use native.Mathlib.Omega.{arith}
-use lib.ListN.{length, get_or, set}
-use lib.Seq.{sets}
+use lib.ListN.{get_or}
 use Rattle.refusal.specs.Told.{accepted, refused}
 use Rattle.numbers.specs.Answer.{read_below_answer}
 use Rattle.numbers.proofs.Below.{below_is_read}
 use Rattle.record.specs.Numbers.{number_at, next_at, after, numbers_from, numbers_answer}
 use Rattle.record.proofs.Ways.{goes_on, stops, passed}
-use Rattle.record.proofs.Places.{number_is, next_is, after_add, length_from}
+use Rattle.record.proofs.Places.{number_is, next_is, after_add}
 use Rattle.record.proofs.Numbers.{numbers_on, numbers_off, numbers_end, place_after}
+use Rattle.program.specs.declared.read.Head.{Head}
+use Rattle.program.specs.Inside.{head_numbers}
 use Rattle.program.specs.Input.{ctx_in, clk_in, ptr_in, vars_in, evals_in, cells_in, cells_at, head_answer}
-use Rattle.program.proofs.Cells.{all_stored}
 
 module _ (s : List ℕ) where
   two-before : (v w at₁ at₂ : ℕ) → v ≡ number_at s 0 → at₁ ≡ next_at s 0 → w ≡ number_at s at₁ → at₂ ≡ next_at s at₁ → v ∷ w ∷ numbers_from 4 s at₂ ≡ numbers_from 6 s 0
@@ -47,12 +47,12 @@ module _ (s : List ℕ) where
           ap (numbers_answer (2 ^ 64) 4 s) (place_after (2 ^ 32) s 2 0 0 ptr-at both_read)
           ∙ sym (goes_on (numbers_answer (2 ^ 32) 2 s 0) (numbers_answer (2 ^ 64) 4 s (after 2 s 0)) (0 ∷ ptr-at ∷ []) both_read)
 
-      pub head_stored : (old new : List ℕ) → new ≡ sets (set (set old 0 ctx) 1 clk) 2 (numbers_from 4 s ptr-at) → length old ≡ 6 → new ≡ numbers_from 6 s 0
-      head_stored old new q h =
+      pub head_stored : (rest : List ℕ) → rest ≡ numbers_from 4 s ptr-at → ctx ∷ clk ∷ get_or rest 0 0 ∷ get_or rest 1 0 ∷ get_or rest 2 0 ∷ get_or rest 3 0 ∷ [] ≡ numbers_from 6 s 0
+      unfolding numbers_from
+      head_stored rest q =
           let a = (below_is_read (2 ^ 32) s 0 ctx clk-at e).read in
           let b = (below_is_read (2 ^ 32) s clk-at clk ptr-at f).read in
-          q
-          ∙ all_stored (ctx ∷ clk ∷ numbers_from 4 s ptr-at) old (omega (arith, length_from 4 s ptr-at))
+          ap (λ (l : List ℕ). ctx ∷ clk ∷ get_or l 0 0 ∷ get_or l 1 0 ∷ get_or l 2 0 ∷ get_or l 3 0 ∷ []) q
           ∙ two-before ctx clk clk-at ptr-at (number_is s 0 ctx clk-at a) (next_is s 0 ctx clk-at a) (number_is s clk-at clk ptr-at b) (next_is s clk-at clk ptr-at b)
 
   -- where the cells stand
@@ -62,28 +62,28 @@ module _ (s : List ℕ) where
       let a = passed (numbers_answer (2 ^ 32) 2 s 0) (numbers_answer (2 ^ 64) 4 s (after 2 s 0)) (v ∷ place ∷ []) e in
       place_after (2 ^ 64) s 4 (after 2 s 0) v place a.then ∙ sym (after_add 2 4 s 0)
 
-  -- the six numbers, in their cells
-  module _ (head : List ℕ) (q : head ≡ numbers_from 6 s 0) where
-    pub ctx_is : get_or head 0 0 ≡ ctx_in s
+  -- the six numbers
+  module _ (h : Head) (q : head_numbers h ≡ numbers_from 6 s 0) where
+    pub ctx_is : h.ctx ≡ ctx_in s
     unfolding numbers_from ctx_in
     ctx_is = ap (λ (l : List ℕ). get_or l 0 0) q
 
-    pub clk_is : get_or head 1 0 ≡ clk_in s
+    pub clk_is : h.clk ≡ clk_in s
     unfolding numbers_from after clk_in
     clk_is = ap (λ (l : List ℕ). get_or l 1 0) q
 
-    pub ptr_is : get_or head 2 0 ≡ ptr_in s
+    pub ptr_is : h.ptr ≡ ptr_in s
     unfolding numbers_from after ptr_in
     ptr_is = ap (λ (l : List ℕ). get_or l 2 0) q
 
-    pub vars_are : get_or head 3 0 ≡ vars_in s
+    pub vars_are : h.num_vars ≡ vars_in s
     unfolding numbers_from after vars_in
     vars_are = ap (λ (l : List ℕ). get_or l 3 0) q
 
-    pub evals_are : get_or head 4 0 ≡ evals_in s
+    pub evals_are : h.num_eval ≡ evals_in s
     unfolding numbers_from after evals_in
     evals_are = ap (λ (l : List ℕ). get_or l 4 0) q
 
-    pub cells_are : get_or head 5 0 ≡ cells_in s
+    pub cells_are : h.num_cells ≡ cells_in s
     unfolding numbers_from after cells_in
     cells_are = ap (λ (l : List ℕ). get_or l 5 0) q

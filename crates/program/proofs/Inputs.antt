@@ -110,10 +110,9 @@ module _ (s : List ℕ) where
       pub input_over : over_room (num-vars + num-eval) ≡ true → refused 24 0 ≡ input_answer s
       input_over g = sym (ap (λ (x : Bool). cond x (refused 24 0) (accepted (0 ∷ after (cells_in s) s (cells_at s) ∷ []))) (sums ∙ g)) ∙ input_last (v ∷ end ∷ []) f
 
-      pub input_end : over_room (num-vars + num-eval) ≡ false → accepted (0 ∷ end ∷ []) ≡ input_answer s
+      pub input_end : over_room (num-vars + num-eval) ≡ false → accepted (0 ∷ after (cells_in s) s (cells_at s) ∷ []) ≡ input_answer s
       input_end g =
-          ap (λ (k : ℕ). accepted (0 ∷ k ∷ [])) (cells_place n s at v end f ∙ ap₂ (λ (x y : ℕ). after x s y) a b)
-          ∙ sym (ap (λ (x : Bool). cond x (refused 24 0) (accepted (0 ∷ after (cells_in s) s (cells_at s) ∷ []))) (sums ∙ g))
+          sym (ap (λ (x : Bool). cond x (refused 24 0) (accepted (0 ∷ after (cells_in s) s (cells_at s) ∷ []))) (sums ∙ g))
           ∙ input_last (v ∷ end ∷ []) f
 
     pub memory-stored : (old new : List ℕ) → new ≡ sets old 0 (numbers_from n s at) → new ≡ sets old 0 (memory_in s)

@@ -1,6 +1,5 @@
 pub mod Decimal
 pub mod Texts
-pub mod Cells
 pub mod Heads
 pub mod Inputs
 pub mod RecordTexts

@@ -1,11 +1,11 @@
 -- The program's text, and the buffer that it is written into.
 -- Assumes nothing.
-use Prim.Native.Nat.{ℕ, ◌+◌, ◌^◌, ◌≤◌, ◌<◌}
+use Prim.Native.Nat.{ℕ, ◌+◌, ◌≤◌, ◌<◌}
 use mathlib.Core.Path.{◌≡◌, sym, ap, ap₂, ◌∙◌}
 use native.Mathlib.Omega.{arith}
 use mathlib.Core.Bool.{false}
 use mathlib.Core.List.{List}
-use lib.ListN.{length, get_or, take}
+use lib.ListN.{length, take}
 use lib.Seq.{sets, length-sets}
 use borrow.Author.Tests.{le-leb, lt-leb}
 use Rattle.refusal.specs.Told.{Told, accepted, refused, or_else}
@@ -14,7 +14,9 @@ use Rattle.record.proofs.Places.{length_from}
 use Rattle.record.proofs.Used.{front_taken}
 use Rattle.program.specs.Input.{ctx_in, clk_in, ptr_in, vars_in, evals_in, cells_in, cells_at, memory_in, most_cells, over_room, input_answer}
 use Rattle.program.specs.Answer.{here, refuse_text, circuit_text, text_of, program_answer, program_text, most_text, text_length, text_after}
-use Rattle.program.specs.Inside.{WhereAccepted, Loaded, eval_text}
+use Rattle.program.specs.declared.read.Head.{Head}
+use Rattle.record.specs.Numbers.{numbers_from}
+use Rattle.program.specs.Inside.{head_numbers, eval_text}
 use Rattle.program.proofs.Heads.{ctx_is, clk_is, ptr_is, vars_are, evals_are, cells_are}
 use Rattle.program.proofs.Inputs.{input_good}
 
@@ -54,33 +56,19 @@ module _ (s : List ℕ) where
   unfolding memory_in
   memory-taken n old new q e h = ap (take n) q ∙ front_taken n (memory_in s) old (length_from (cells_in s) s (cells_at s) ∙ sym e) h
 
--- input that is not refused, in the cells that it was read into
-pub record Given (s head memory : List ℕ) : Type 0 where
-  pub ctx : get_or head 0 0 ≡ ctx_in s
-  pub clk : get_or head 1 0 ≡ clk_in s
-  pub ptr : get_or head 2 0 ≡ ptr_in s
-  pub vars : get_or head 3 0 ≡ vars_in s
-  pub evals : get_or head 4 0 ≡ evals_in s
-  pub ctx_fits : get_or head 0 0 < 2 ^ 32
-  pub clk_fits : get_or head 1 0 < 2 ^ 32
-  pub held : get_or head 5 0 ≤ length memory
-  pub room : over_room (get_or head 3 0 + get_or head 4 0) ≡ false
-  pub cells : take (get_or head 5 0) memory ≡ memory_in s
+-- input that is not refused, as it was read
+pub record Given (s : List ℕ) (h : Head) (memory : List ℕ) : Type 0 where
+  pub held : h.num_cells ≤ length memory
+  pub room : over_room (h.num_vars + h.num_eval) ≡ false
+  pub text_is : eval_text h.ctx h.clk h.ptr h.num_vars h.num_eval (take h.num_cells memory) ≡ program_text s
 
-pub input_given : (s head memory old vs : List ℕ) → input_answer s ≡ accepted vs → WhereAccepted (input_answer s) (Loaded s head memory old) → length old ≡ most_cells → Given s head memory
-input_given s head memory old vs e loads l =
+pub input_given : (s : List ℕ) (h : Head) (memory old vs : List ℕ) → input_answer s ≡ accepted vs → head_numbers h ≡ numbers_from 6 s 0 → memory ≡ sets old 0 (memory_in s) → length old ≡ most_cells → Given s h memory
+input_given s h memory old vs e q m l =
     let g = input_good s vs e in
-    let q = (loads vs e).numbers in
-    let few : get_or head 5 0 ≤ most_cells = omega (arith, cells_are s head q, g.few_cells) in
+    let few : h.num_cells ≤ most_cells = omega (arith, cells_are s h q, g.few_cells) in
     record {
-      ctx = ctx_is s head q;
-      clk = clk_is s head q;
-      ptr = ptr_is s head q;
-      vars = vars_are s head q;
-      evals = evals_are s head q;
-      ctx_fits = omega (arith, ctx_is s head q, g.ctx_fits);
-      clk_fits = omega (arith, clk_is s head q, g.clk_fits);
-      held = omega (arith, few, ap length (loads vs e).cells, length-sets old 0 (memory_in s), l);
-      room = ap₂ (λ (x y : ℕ). over_room (x + y)) (vars_are s head q) (evals_are s head q) ∙ g.room;
-      cells = memory-taken s (get_or head 5 0) old memory (loads vs e).cells (cells_are s head q) (omega (arith, few, l));
+      held = omega (arith, few, ap length m, length-sets old 0 (memory_in s), l);
+      room = ap₂ (λ (x y : ℕ). over_room (x + y)) (vars_are s h q) (evals_are s h q) ∙ g.room;
+      text_is = input_evaluated s _ _ _ _ _ _ vs e (ctx_is s h q) (clk_is s h q) (ptr_is s h q) (vars_are s h q) (evals_are s h q)
+          (memory-taken s h.num_cells old memory m (cells_are s h q) (omega (arith, few, l)));
     }

@@ -5,13 +5,13 @@ use mathlib.Core.Path.{◌≡◌, refl, sym, ap, ap₂, ◌∙◌}
 use mathlib.Core.List.{List, [], ◌∷◌, ◌++◌}
 use native.Mathlib.Omega.{arith}
 use native.Mathlib.Numerals.{add-one}
-use lib.ListN.{length, get_or, set, drop, length-append, drop_of_length-le}
-use lib.Seq.{sets, length-sets, drop-cons}
-use borrow.Author.Tests.{eq-eqb, ne_eqb}
+use lib.ListN.{length, get_or, set, drop, length-append}
+use lib.Seq.{sets, sets-eq, length-sets}
+use borrow.Author.Tests.{eq-eqb}
 use Rattle.field.specs.Lists.{each}
-use Rattle.field.proofs.Each.{each_none, each_more, each_equal}
+use Rattle.field.proofs.Each.{each_none, each_more}
 use Rattle.trace.proofs.Stores.{sets_append}
-use Rattle.program.specs.Text.{decimal, behind, part, lines}
+use Rattle.program.specs.Text.{decimal, behind, part}
 use Rattle.program.proofs.Decimal.{decimal-length}
 
 -- with a text put into old from at on, out is left, and next is the place after it
@@ -32,20 +32,17 @@ wrote_on {old} {at} {xs} {mid} {m} w {ys} u =
       bytes = u.bytes ∙ ap₂ (λ (l : List ℕ) (k : ℕ). sets l k ys) w.bytes w.place ∙ sets_append xs ys old at;
     }
 
--- a word, byte by byte: what is left to store, from here, is the whole
-module _ (word out : List ℕ) (i : ℕ) (t : List ℕ) where
-  pub word_next : sets out i (drop i word) ≡ t → i < length word → sets (set out i (get_or word i 0)) (i + 1) (drop (i + 1) word) ≡ t
-  word_next q h = rw (add-one i) (ap (sets out i) (sym (drop-cons word i 0 h)) ∙ q)
+-- a word at the start
+pub word_put : (word start out : List ℕ) → length word ≤ length out → start ≡ word → start ++ drop (length word) out ≡ sets out 0 word
+word_put word start out h e =
+    let z : 0 + length word ≡ length word = omega arith in
+    ap (λ (l : List ℕ). l ++ drop (length word) out) e
+    ∙ ap (λ (k : ℕ). word ++ drop k out) (sym z)
+    ∙ sym (sets-eq word out 0 (omega arith))
 
-  pub word_end : sets out i (drop i word) ≡ t → length word ≤ i → out ≡ t
-  word_end q h = ap (sets out i) (sym (drop_of_length-le word h)) ∙ q
-
--- what stands behind a number
+-- what stands behind the last number of a line
 pub behind_last : (width k : ℕ) → k % width ≡ width - 1 → 10 ≡ behind width k
 behind_last width k e = rw (eq-eqb (k % width) (width - 1) e)
-
-pub behind_other : (width k : ℕ) → (k % width ≡ width - 1 → ⊥) → 32 ≡ behind width k
-behind_other width k n = rw (ne_eqb (k % width) (width - 1) n)
 
 -- numbers in lines
 module _ (width : ℕ) (cells : List ℕ) where
@@ -87,9 +84,3 @@ module _ (width : ℕ) (cells : List ℕ) where
       where
         last : (l : List ℕ) (k c : ℕ) → c ≡ behind width i → Wrote l k (behind width i ∷ []) (set l k c) (k + 1)
         last l k c g = record { place = refl; bytes = ap (set l k) g }
-
--- numbers that stand in other cells make the same lines
-pub same_lines : (width : ℕ) (cells xs : List ℕ) (n : ℕ) → n ≡ length xs → ((k : ℕ) → k < n → get_or cells k 0 ≡ get_or xs k 0) → each (part width cells) n ≡ lines width xs
-same_lines width cells xs n e h =
-    each_equal (part width cells) (part width xs) n (λ k l. ap (λ (v : ℕ). decimal v ++ (behind width k ∷ [])) (h k l))
-    ∙ ap (each (part width xs)) e

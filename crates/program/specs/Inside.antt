@@ -1,26 +1,19 @@
 -- What the private functions promise each other. No public contract cites this file.
 -- Assumes nothing.
-use Rattle.std.specs.Prelude.{◌≡◌, ℕ, ◌≤◌, List, [], length, replicate}
-use Rattle.std.proofs.lemmas.List.Edits.{sets}
-use Rattle.refusal.specs.Told.{Told, accepted}
+use Rattle.std.specs.Prelude.{◌≡◌, ℕ, ◌≤◌, List, [], ◌∷◌, length, replicate}
+use Rattle.refusal.specs.Told.{accepted}
 use Rattle.trace.specs.declared.RecordHeader.{RecordHeader}
 use Rattle.trace.specs.Outcome.{Lent}
 use Rattle.trace.specs.Record.{record_wires}
 use Rattle.eval_circuit.specs.Evaluated.{circuit_at, eval_answer}
 use Rattle.rows.specs.Rows.{record_rows}
 use Rattle.rows.specs.Fill.{num_rows, fill_answer}
-use Rattle.record.specs.Numbers.{numbers_from}
-use Rattle.program.specs.Input.{memory_in}
+use Rattle.program.specs.declared.read.Head.{Head}
 use Rattle.program.specs.Answer.{here, most_text, accept_text, circuit_text, text_of}
 
--- what is so where an answer is no refusal
-abbrev pub WhereAccepted : Told → Type 0 → Type 0
-WhereAccepted t A = (vs : List ℕ) → t ≡ accepted vs → A
-
--- what is read stands in the cells lent for it: the six numbers, and the memory
-pub record Loaded (s head memory old : List ℕ) : Type 0 where
-  pub numbers : head ≡ numbers_from 6 s 0
-  pub cells : memory ≡ sets old 0 (memory_in s)
+-- the six numbers before the cells
+abbrev pub head_numbers : Head → List ℕ
+head_numbers h = h.ctx ∷ h.clk ∷ h.ptr ∷ h.num_vars ∷ h.num_eval ∷ h.num_cells ∷ []
 
 -- the row buffer before it is filled
 abbrev pub no_rows : List ℕ

@@ -11,7 +11,6 @@ ghost use Rattle.program.specs.Answer.{text_length, text_after};
 use crate::evaluate::evaluate;
 use crate::read::read_input;
 use crate::text::put_refusal;
-use numbers::ReadAnswer;
 
 // "At most 10,301 bytes in all": 1030 numbers of ten bytes, and one byte more, which shows 23.
 pub const MOST_INPUT: usize = 10301;
@@ -22,9 +21,6 @@ pub const MOST_TEXT: usize = 43008;
 // "n at most 1024".
 const MOST_CELLS: usize = 1024;
 
-// ctx, clk, ptr, num_vars, num_eval and n.
-const HEAD: usize = 6;
-
 // Writes the text into out, which has room for the longest, and answers its length.
 pub fn answer(input: &[u8], out: &mut [u8]) -> usize
     ensures value { result ≡ text_length input.now out.old }
@@ -33,20 +29,9 @@ pub fn answer(input: &[u8], out: &mut [u8]) -> usize
     if out.len() < MOST_TEXT {
         return 0;
     }
-    let mut head = [0u64; HEAD];
     let mut memory = [0u64; MOST_CELLS];
-    let read = read_input(input, &mut head, &mut memory);
-    if let ReadAnswer::Refused(number, _) = read {
-        return put_refusal(number, out);
+    match read_input(input, &mut memory) {
+        Ok(head) => evaluate(head, &memory[..head.num_cells as usize], out),
+        Err(refusal) => put_refusal(refusal, out),
     }
-    let n = head[5] as usize;
-    evaluate(
-        head[0] as u32,
-        head[1] as u32,
-        head[2],
-        head[3],
-        head[4],
-        &memory[..n],
-        out,
-    )
 }

@@ -10,7 +10,6 @@ pub mod Heads
 pub mod Tests
 pub mod FieldsFound
 pub mod Standing
-pub mod CellLoads
 pub mod WireLoads
 pub mod Loads
 pub mod Putting

@@ -8,24 +8,11 @@ use lib.ListN.{length, get_or, take}
 use lib.Seq.{sets, length-sets}
 use Rattle.std.proofs.lemmas.List.{take_more}
 use Rattle.field.specs.Lists.{each}
-use Rattle.refusal.specs.Told.{accepted, refused}
 use Rattle.field.proofs.Each.{each_none}
-use Rattle.refusal.proofs.Tellings.{clash}
 use Rattle.trace.proofs.Stores.{sets_append}
 use Rattle.numbers.specs.Form.{bytes_of, width_of}
-use Rattle.numbers.specs.Answer.{write_answer}
-use Rattle.numbers.proofs.Writing.{room_answer}
 use Rattle.record.specs.Bytes.{bytes_of_all, wire_numbers}
-use Rattle.record.specs.Numbers.{number_told}
 use Rattle.record.proofs.Widths.{taken, taken_none, taken_more, taken_append, bytes_none, bytes_one, bytes-append, taken_next, taken_within, wires_next, wires_taken_next, wires-within}
-
--- `put` where there is room
-module _ (v : ℕ) (out : List ℕ) (at : ℕ) (h : at + width_of v ≤ length out) where
-  pub put_refused : (number place : ℕ) → refused number place ≡ write_answer v out at → ⊥
-  put_refused number place e = clash (e ∙ room_answer v out at h)
-
-  pub put_next : (next : ℕ) → accepted (next ∷ []) ≡ write_answer v out at → next ≡ at + width_of v
-  put_next next e = ap number_told (e ∙ room_answer v out at h)
 
 -- with the numbers vs put into old from at on, out is left, and next is the place after them
 pub record Wrote (old : List ℕ) (at : ℕ) (vs out : List ℕ) (next : ℕ) : Type 0 where

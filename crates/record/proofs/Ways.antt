@@ -1,16 +1,10 @@
--- What an answer is known by, and one answer before another: the first refusal, or what comes after.
+-- One answer before another: the first refusal, or what comes after.
 -- Assumes nothing.
 use Prim.Native.Nat.{ℕ}
-use mathlib.Core.Path.{◌≡◌, refl, sym, ap, ◌∙◌}
+use mathlib.Core.Path.{◌≡◌, refl, sym, ap}
 use mathlib.Core.List.{List, [], ◌∷◌}
 use Rattle.refusal.specs.Told.{Told, accepted, refused, or_else}
 use Rattle.refusal.proofs.Tellings.{clash}
-use Rattle.numbers.specs.Answer.{read_told}
-use Rattle.numbers.specs.declared.ReadAnswer.{ReadAnswer}
-
--- an answer that a call promised, and that turned out to be x
-pub heard : {r x : ReadAnswer} {t : Told} → read_told r ≡ t → r ≡ x → t ≡ read_told x
-heard e f = sym e ∙ ap read_told f
 
 pub values_are : (v next w place : ℕ) → accepted (v ∷ next ∷ []) ≡ accepted (w ∷ place ∷ []) → (w ≡ v) × (place ≡ next)
 values_are v next w place e = (cc, cc)
@@ -30,3 +24,8 @@ pub record Passed (t u : Told) (vs : List ℕ) : Type 0 where
 pub passed : (t u : Told) (vs : List ℕ) → or_else t u ≡ accepted vs → Passed t u vs
 passed (accepted ws) u vs e = record { values = ws; first = refl; then = e }
 passed (refused n k) u vs e = clash e
+
+-- and where something is refused, though not by what comes after, it is the first
+pub refused_first : (t : Told) (vs : List ℕ) (number place : ℕ) → refused number place ≡ or_else t (accepted vs) → t ≡ refused number place
+refused_first (accepted ws) vs n k e = clash e
+refused_first (refused m l) vs n k e = sym e

@@ -1,7 +1,9 @@
 -- The numbers that stand in bytes, one after the other.
 -- Assumes nothing.
-use Rattle.std.specs.Prelude.{ℕ, zero, suc, List, [], ◌∷◌}
+use Rattle.std.specs.Prelude.{ℕ, Result, zero, suc, List, [], ◌∷◌}
 use Rattle.refusal.specs.Told.{Told, accepted, refused, or_else}
+use Rattle.refusal.specs.Refusal.{told}
+use Rattle.refusal.specs.declared.Refusal.{Refusal}
 use Rattle.numbers.specs.Answer.{read_answer, read_below_answer}
 
 -- the number that an answer gives, and the place after it; 0 and the number's own place where it gives none
@@ -32,6 +34,10 @@ after (suc n) s at = after n s (next_at s at)
 unfoldable pub numbers_from : ℕ → List ℕ → ℕ → List ℕ
 numbers_from zero s at = []
 numbers_from (suc n) s at = number_at s at ∷ numbers_from n s (next_at s at)
+
+-- the place after numbers that were looked at, told as in an answer that has a number before the place
+abbrev pub left_off_told : Result ℕ Refusal → Told
+left_off_told = told (λ at. 0 ∷ at ∷ [])
 
 -- the first refusal of n numbers below a bound; else the place after them
 unfoldable pub numbers_answer : ℕ → ℕ → List ℕ → ℕ → Told

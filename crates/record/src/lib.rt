@@ -18,18 +18,8 @@ use crate::find::find;
 use crate::load::load;
 use crate::put::put_record;
 use crate::width::record_width;
-use numbers::{NO_ROOM, ReadAnswer, WriteAnswer};
-use trace::{CircuitEvaluation, HeaderAnswer, RecordHeader, Tested};
-
-// The refusals of the declared count of wires: of none, and of one that the wire list has not.
-pub const NO_WIRES: u32 = 18;
-
-pub const OTHER_LENGTH: u32 = 20;
-
-// The refusals of nodes whose wires are not the declared ones, and of bytes after the last node.
-pub const OTHER_WIRES: u32 = 22;
-
-pub const BYTES_LEFT: u32 = 23;
+use refusal::Refusal;
+use trace::{CircuitEvaluation, RecordHeader};
 
 // "21, 19, 6, 17 (a used value or node cell, or id_next, p or more), then" "writer 24". "A refusal
 // changes nothing." It answers the number of bytes.
@@ -39,20 +29,17 @@ pub fn write_into(
     counts: &[u32],
     nodes: &[u64],
     out: &mut [u8],
-) -> WriteAnswer
+) -> Result<usize, Refusal>
     ensures result_value { write_told result ≡ write_into_answer header (lent values.now counts.now nodes.now) out.old }
     ensures out_after { out.new ≡ written_into header (lent values.now counts.now nodes.now) out.old }
 {
-    let tested = header.test(values, counts, nodes);
-    if let Tested::Refused(number, place) = tested {
-        return WriteAnswer::Refused(number, place);
-    }
+    header.test(values, counts, nodes)?;
     let width = record_width(header, values, counts, nodes);
     if out.len() < width {
-        return WriteAnswer::Refused(NO_ROOM, 0);
+        return Err(Refusal::NoRoom);
     }
     put_record(header, values, counts, nodes, out);
-    WriteAnswer::Next(width)
+    Ok(width)
 }
 
 // "Given a step state, 13 and 11 come before these."
@@ -62,15 +49,12 @@ pub fn write_state_into(
     counts: &[u32],
     nodes: &[u64],
     out: &mut [u8],
-) -> WriteAnswer
+) -> Result<usize, Refusal>
     ensures result_value { write_told result ≡ write_state_answer state (lent values.now counts.now nodes.now) out.old }
     ensures out_after { out.new ≡ written_state state (lent values.now counts.now nodes.now) out.old }
 {
-    let finalized = state.finalized();
-    match finalized {
-        HeaderAnswer::Header(header) => write_into(header, values, counts, nodes, out),
-        HeaderAnswer::Refused(number, place) => WriteAnswer::Refused(number, place),
-    }
+    let header = state.finalized()?;
+    write_into(header, values, counts, nodes, out)
 }
 
 // "In field order 15, 16, 17 at each number and 24 at each list length that passes the room; after
@@ -81,14 +65,10 @@ pub fn read_from(
     values: &mut [u64],
     counts: &mut [u32],
     nodes: &mut [u64],
-) -> HeaderAnswer
+) -> Result<RecordHeader, Refusal>
     ensures result_value { header_told result ≡ read_from_answer source.now (lent values.old counts.old nodes.old) }
     ensures nodes_after { lent values.new counts.new nodes.new ≡ read_buffers source.now (lent values.old counts.old nodes.old) }
 {
-    let found = find(source, values.len(), counts.len(), nodes.len());
-    if let ReadAnswer::Refused(number, place) = found {
-        return HeaderAnswer::Refused(number, place);
-    }
-    let loaded = load(source, values, counts, nodes);
-    HeaderAnswer::Header(loaded)
+    find(source, values.len(), counts.len(), nodes.len())?;
+    Ok(load(source, values, counts, nodes))
 }

@@ -7,7 +7,7 @@ ghost use Rattle.record.specs.Numbers.{number_at, next_at, after, numbers_from};
 ghost use Rattle.record.specs.Reading.{values_from, counts_from, header_in, record_in};
 ghost use Rattle.record.specs.Inside.{Wires, Found};
 
-use numbers::{ReadAnswer, read};
+use numbers::read;
 use trace::{EVAL_CELLS, READ_CELLS, RecordHeader};
 
 // A number and the place after it.
@@ -15,10 +15,7 @@ fn number_at(source: &[u8], at: usize) -> (u64, usize)
     ensures value { result.0 ≡ number_at source.now at }
     ensures next { result.1 ≡ next_at source.now at }
 {
-    match read(source, at) {
-        ReadAnswer::Number(value, next) => (value, next),
-        ReadAnswer::Refused(..) => (0, at),
-    }
+    read(source, at).unwrap_or((0, at))
 }
 
 // Each function from here on answers the place after what it loaded.

@@ -9,7 +9,7 @@ ghost use Rattle.record.specs.Bytes.{wire_numbers, bytes_of_all, record_bytes};
 ghost use Rattle.record.specs.Inside.{Held};
 
 use crate::parts::{head, node_cells, num_wires, wire};
-use numbers::{WriteAnswer, write};
+use numbers::write;
 use trace::RecordHeader;
 
 fn put(v: u64, out: &mut [u8], at: usize) -> usize
@@ -17,10 +17,7 @@ fn put(v: u64, out: &mut [u8], at: usize) -> usize
     ensures value { result ≡ at + width_of v }
     ensures out_after { out.new ≡ sets out.old at (bytes_of v) }
 {
-    let WriteAnswer::Next(next) = write(v, out, at) else {
-        unreachable!();
-    };
-    next
+    write(v, out, at).unwrap()
 }
 
 fn put_numbers(numbers: &[u64], out: &mut [u8], at: usize) -> usize

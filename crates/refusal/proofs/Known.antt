@@ -1,7 +1,7 @@
 -- A refusal is known from its number and place, and so an answer from what it tells.
 -- Assumes nothing.
 use Rattle.std.proofs.Common.{◌≡◌, ℕ, List, Result, Ok, Err, refl, sym, ap, ap₂, ◌∙◌, cond, eqb}
-use Rattle.refusal.specs.Refusal.{number_of, place_of, told}
+use Rattle.refusal.specs.Refusal.{number_of, place_of, told, nothing}
 use Rattle.refusal.specs.declared.Refusal.{Refusal}
 use Rattle.refusal.specs.declared.Refusal.TheVariants.{TooManyWires, BadReadCount, BadEvalCount, Unaligned, OutOfMemory, ShortBuffer, NotElement, NotInstruction, LeftNotMade, RightNotMade, NotFinished, NotZero, OutOfTurn, ShortRows, CutOff, NotShortest, OutOfRange, NoWires, OverMaxWires, OtherLength, NoEvalNode, OtherWires, BytesLeft, NoRoom, ListFull, NoSuchClock}
 use Rattle.refusal.proofs.Tellings.{clash, same_values, same_refusal}
@@ -73,3 +73,6 @@ told_determined values known (Ok v) (Ok w) e = ap Ok (known v w (same_values e))
 told_determined values known (Ok v) (Err d) e = clash (sym e)
 told_determined values known (Err d) (Ok w) e = clash e
 told_determined values known (Err c) (Err d) e = let h = same_refusal e in ap Err (same_refused c d h.0 h.1)
+
+pub nothing_determined : (r s : Result Unit Refusal) → told nothing r ≡ told nothing s → r ≡ s
+nothing_determined = told_determined nothing (λ v w e. refl)

@@ -1,131 +1,70 @@
-// An instruction, done; what is held after it is given back.
-use crate::buffers::{Bytes, Counts, Memory, Nodes, Rows, Values};
-use crate::held::{Held, Lent};
-use crate::input::{ARGUMENTS, Instruction};
-use crate::{cells, circuits, codes, elements, groups, held, lists, records, steps};
+// An instruction, done.
+use crate::buffers::{Buffers, Lent, first};
+use crate::instructions::{Instruction, LentCall};
+use crate::{circuits, elements, groups, lists, records, steps};
+use runs::Ace;
 use std::io;
 use trace::CircuitEvaluation;
 
-// One that needs no buffer.
-fn alone(rt: &impl Print, code: u64, args: [u64; ARGUMENTS], before: Held) -> io::Result<Held> {
-    let list = before.list;
-    match code {
-        codes::LEND => Ok(held::with_lent(before, args[0] as usize, args[1] as usize)),
-        codes::STATE => Ok(held::with_state(before, held::state_of(args))),
-        codes::ENTRY | codes::LENGTH | codes::ADD => Ok(held::with_list(
-            before,
-            lists::changed(rt, code, args, list)?,
-        )),
-        codes::FELT => {
-            elements::felt(rt, args)?;
-            Ok(before)
+// What there is.
+#[derive(Drop)]
+pub struct Held<'a> {
+    buffers: Buffers<'a>,
+    lent: Lent,
+    state: CircuitEvaluation,
+    list: Ace,
+}
+
+impl<'a> Held<'a> {
+    pub fn new(buffers: Buffers<'a>) -> Self {
+        Held {
+            buffers,
+            lent: Lent::default(),
+            state: steps::nothing(),
+            list: lists::empty(),
         }
-        codes::QUAD => {
-            elements::quad(rt, args)?;
-            Ok(before)
-        }
-        codes::DECODE => {
-            elements::decode(rt, args)?;
-            Ok(before)
-        }
-        codes::WIDTH => {
-            groups::width(rt, args)?;
-            Ok(before)
-        }
-        _ => {
-            lists::ask(rt, code, args, list)?;
-            Ok(before)
+    }
+
+    pub fn answer(&mut self, rt: &impl Print, instruction: Instruction<'_>) -> io::Result<()> {
+        match instruction {
+            Instruction::Cells(buffer, call) => self.buffers.answer(rt, buffer, call),
+            Instruction::Lend(buffer, n) => {
+                self.lent.lend(buffer, n);
+                Ok(())
+            }
+            Instruction::SetState(state) => {
+                self.state = state;
+                Ok(())
+            }
+            Instruction::List(call) => lists::answer(rt, call, &mut self.list),
+            Instruction::Element(call) => elements::answer(rt, call),
+            Instruction::OverLent(call) => {
+                over_lent(rt, call, &mut self.buffers, self.lent, &mut self.state)
+            }
         }
     }
 }
 
-// One that reads or writes bytes.
-fn over_bytes(
+fn over_lent(
     rt: &impl Print,
-    code: u64,
-    args: [u64; ARGUMENTS],
+    call: LentCall,
+    buffers: &mut Buffers<'_>,
     lent: Lent,
-    state: CircuitEvaluation,
-    values: &mut Values,
-    counts: &mut Counts,
-    nodes: &mut Nodes,
-    bytes: &mut Bytes,
+    state: &mut CircuitEvaluation,
 ) -> io::Result<()> {
-    match code {
-        codes::WRITE | codes::WRITE_STATE => {
-            records::write(rt, code, args, lent, state, values, counts, nodes, bytes)
-        }
-        codes::READ_RECORD => records::read(rt, lent, values, counts, nodes, bytes),
-        _ => groups::answer(rt, code, args, lent, bytes),
+    // No method of Buffers gives these back: tried, and parts of several `&mut` fields got no proof.
+    let buffers = Buffers {
+        memory: first(buffers.memory, lent.memory),
+        values: first(buffers.values, lent.values),
+        counts: first(buffers.counts, lent.counts),
+        nodes: first(buffers.nodes, lent.nodes),
+        rows: first(buffers.rows, lent.rows),
+        bytes: first(buffers.bytes, lent.bytes),
+    };
+    match call {
+        LentCall::Step(call) => steps::answer(rt, call, state, buffers),
+        LentCall::Circuit(call) => circuits::answer(rt, call, *state, buffers),
+        LentCall::Record(call) => records::answer(rt, call, *state, buffers),
+        LentCall::Number(call) => groups::answer(rt, call, buffers.bytes),
     }
-}
-
-// One that needs a buffer; the step state after it is given back.
-fn over_buffers(
-    rt: &impl Print,
-    code: u64,
-    count: u64,
-    args: [u64; ARGUMENTS],
-    lent: Lent,
-    state: CircuitEvaluation,
-    memory: &mut Memory,
-    values: &mut Values,
-    counts: &mut Counts,
-    nodes: &mut Nodes,
-    rows: &mut Rows,
-    bytes: &mut Bytes,
-) -> io::Result<CircuitEvaluation> {
-    match code {
-        codes::OPEN | codes::READ | codes::EVAL | codes::OUTPUT => {
-            return steps::answer(rt, code, args, lent, state, values, counts, nodes);
-        }
-        codes::EVALUATE => circuits::evaluate(rt, args, lent, memory, values, counts, nodes)?,
-        codes::FILL | codes::FILL_STATE => {
-            circuits::fill(rt, code, args, lent, state, values, counts, nodes, rows)?;
-        }
-        codes::SET | codes::RISE | codes::SHOW | codes::SUM => {
-            cells::answer(
-                rt, code, count, args, memory, values, counts, nodes, rows, bytes,
-            )?;
-        }
-        _ => over_bytes(rt, code, args, lent, state, values, counts, nodes, bytes)?,
-    }
-    Ok(state)
-}
-
-pub fn answer(
-    rt: &impl Print,
-    asked: Instruction,
-    before: Held,
-    memory: &mut Memory,
-    values: &mut Values,
-    counts: &mut Counts,
-    nodes: &mut Nodes,
-    rows: &mut Rows,
-    bytes: &mut Bytes,
-) -> io::Result<Held> {
-    let code = asked.code;
-    let args = asked.args;
-    if !codes::needs_buffer(code) {
-        return alone(rt, code, args, before);
-    }
-    let lent = before.lent;
-    let state = before.state;
-    Ok(held::with_state(
-        before,
-        over_buffers(
-            rt,
-            code,
-            asked.count,
-            args,
-            lent,
-            state,
-            memory,
-            values,
-            counts,
-            nodes,
-            rows,
-            bytes,
-        )?,
-    ))
 }

@@ -1,142 +1,121 @@
 // Instructions on the cells of one buffer.
-use crate::buffers::{Bytes, Counts, Memory, Nodes, Rows, Values, cells_there, get, set, sum};
-use crate::codes::{RISE, SET, SHOW};
-use crate::input::ARGUMENTS;
+use crate::instructions::Unknown;
 use crate::say;
 use std::io;
-
-// How many cells one instruction sets at most.
-const SET_AT_ONCE: usize = ARGUMENTS - 2;
 
 const SUM_MODULUS: u64 = 4294967291;
 
 const SUM_FACTOR: u64 = 65599;
 
-fn set_all(
-    count: u64,
-    args: [u64; ARGUMENTS],
-    memory: &mut Memory,
-    values: &mut Values,
-    counts: &mut Counts,
-    nodes: &mut Nodes,
-    rows: &mut Rows,
-    bytes: &mut Bytes,
-) {
-    let buffer = args[0] as usize;
-    let at = args[1] as usize;
-    let cells = cells_there(buffer, at, SET_AT_ONCE);
-    let mut k: usize = 0;
-    while k < cells {
-        if count <= k as u64 + 2 {
-            return;
+pub trait Cell: Copy + Into<u64> {
+    // The number, or the largest that fits.
+    fn limited(number: u64) -> Self;
+
+    fn wrapping_add(self, step: Self) -> Self;
+}
+
+impl Cell for u64 {
+    fn limited(number: u64) -> Self {
+        number
+    }
+
+    fn wrapping_add(self, step: Self) -> Self {
+        u64::wrapping_add(self, step)
+    }
+}
+
+impl Cell for u32 {
+    fn limited(number: u64) -> Self {
+        u32::try_from(number).unwrap_or(u32::MAX)
+    }
+
+    fn wrapping_add(self, step: Self) -> Self {
+        u32::wrapping_add(self, step)
+    }
+}
+
+impl Cell for u8 {
+    fn limited(number: u64) -> Self {
+        u8::try_from(number).unwrap_or(u8::MAX)
+    }
+
+    fn wrapping_add(self, step: Self) -> Self {
+        u8::wrapping_add(self, step)
+    }
+}
+
+#[derive(Clone, Copy)]
+pub enum CellCall<'a> {
+    Set {
+        at: usize,
+        numbers: &'a [u64],
+    },
+    Rise {
+        at: usize,
+        n: usize,
+        back: usize,
+        step: u64,
+    },
+    Show {
+        at: usize,
+        n: usize,
+    },
+    Sum {
+        at: usize,
+        n: usize,
+    },
+}
+
+impl<'a> CellCall<'a> {
+    // Of the arguments after the buffer.
+    pub fn parse(code: u64, args: &'a [u64]) -> Result<Self, Unknown> {
+        match (code, args) {
+            (0, [at, numbers @ ..]) => Ok(Self::Set {
+                at: *at as usize,
+                numbers,
+            }),
+            (1, &[at, n, back, step]) => Ok(Self::Rise {
+                at: at as usize,
+                n: n as usize,
+                back: back as usize,
+                step,
+            }),
+            (6, &[at, n]) => Ok(Self::Show {
+                at: at as usize,
+                n: n as usize,
+            }),
+            (7, &[at, n]) => Ok(Self::Sum {
+                at: at as usize,
+                n: n as usize,
+            }),
+            _ => Err(Unknown),
         }
-        set(
-            buffer,
-            at + k,
-            args[k + 2],
-            memory,
-            values,
-            counts,
-            nodes,
-            rows,
-            bytes,
-        );
-        k += 1;
     }
 }
 
-// The cell `back` cells before; 0 where there is none.
-fn cell_before(
-    buffer: usize,
-    at: usize,
-    back: usize,
-    memory: &Memory,
-    values: &Values,
-    counts: &Counts,
-    nodes: &Nodes,
-    rows: &Rows,
-    bytes: &Bytes,
-) -> u64 {
-    if back == 0 || at < back {
-        return 0;
-    }
-    get(
-        buffer,
-        at - back,
-        memory,
-        values,
-        counts,
-        nodes,
-        rows,
-        bytes,
-    )
-}
-
-fn rise(
-    args: [u64; ARGUMENTS],
-    memory: &mut Memory,
-    values: &mut Values,
-    counts: &mut Counts,
-    nodes: &mut Nodes,
-    rows: &mut Rows,
-    bytes: &mut Bytes,
-) {
-    let buffer = args[0] as usize;
-    let at = args[1] as usize;
-    let back = args[3] as usize;
-    let step = args[4];
-    let cells = cells_there(buffer, at, args[2] as usize);
-    let mut k: usize = 0;
-    while k < cells {
-        let before = cell_before(
-            buffer,
-            at + k,
-            back,
-            memory,
-            values,
-            counts,
-            nodes,
-            rows,
-            bytes,
-        );
-        let cell = sum(buffer, before, step);
-        set(
-            buffer,
-            at + k,
-            cell,
-            memory,
-            values,
-            counts,
-            nodes,
-            rows,
-            bytes,
-        );
-        k += 1;
+fn set<T: Cell>(cells: &mut [T], at: usize, numbers: &[u64]) {
+    let Some(cells) = cells.get_mut(at..) else {
+        return;
+    };
+    for (cell, number) in cells.iter_mut().zip(numbers) {
+        *cell = T::limited(*number);
     }
 }
 
-fn show(
-    rt: &impl Print,
-    args: [u64; ARGUMENTS],
-    memory: &Memory,
-    values: &Values,
-    counts: &Counts,
-    nodes: &Nodes,
-    rows: &Rows,
-    bytes: &Bytes,
-) -> io::Result<()> {
-    let buffer = args[0] as usize;
-    let at = args[1] as usize;
-    let cells = cells_there(buffer, at, args[2] as usize);
-    let mut pending = [0u8; say::PENDING_BYTES];
-    let mut used: usize = 0;
-    let mut k: usize = 0;
-    while k < cells {
-        let cell = get(buffer, at + k, memory, values, counts, nodes, rows, bytes);
-        used = say::number(rt, cell, &mut pending, used)?;
-        k += 1;
+fn rise<T: Cell>(cells: &mut [T], at: usize, n: usize, back: usize, step: T) {
+    let end = at.saturating_add(n).min(cells.len());
+    for i in at..end {
+        cells[i] = match i.checked_sub(back) {
+            Some(before) if back != 0 => cells[before].wrapping_add(step),
+            _ => step,
+        };
     }
-    say::flush(rt, &pending, used)
+}
+
+// The n cells from `at` on, as far as there are such.
+fn part<T>(cells: &[T], at: usize, n: usize) -> &[T] {
+    let rest = cells.get(at..).unwrap_or(&[]);
+    rest.get(..n).unwrap_or(rest)
 }
 
 fn add_half(sum: u64, half: u64) -> u64 {
@@ -147,53 +126,23 @@ fn add_cell(sum: u64, cell: u64) -> u64 {
     add_half(add_half(sum, cell), cell / 0x1_0000_0000)
 }
 
-fn tell_sum(
-    rt: &impl Print,
-    args: [u64; ARGUMENTS],
-    memory: &Memory,
-    values: &Values,
-    counts: &Counts,
-    nodes: &Nodes,
-    rows: &Rows,
-    bytes: &Bytes,
-) -> io::Result<()> {
-    let buffer = args[0] as usize;
-    let at = args[1] as usize;
-    let cells = cells_there(buffer, at, args[2] as usize);
-    let mut sum: u64 = 0;
-    let mut k: usize = 0;
-    while k < cells {
-        sum = add_cell(
-            sum,
-            get(buffer, at + k, memory, values, counts, nodes, rows, bytes),
-        );
-        k += 1;
-    }
-    say::numbers(rt, &[sum])
+fn sum<T: Cell>(cells: &[T]) -> u64 {
+    cells
+        .iter()
+        .fold(0, |sum, cell| add_cell(sum, (*cell).into()))
 }
 
-pub fn answer(
-    rt: &impl Print,
-    code: u64,
-    count: u64,
-    args: [u64; ARGUMENTS],
-    memory: &mut Memory,
-    values: &mut Values,
-    counts: &mut Counts,
-    nodes: &mut Nodes,
-    rows: &mut Rows,
-    bytes: &mut Bytes,
-) -> io::Result<()> {
-    match code {
-        SET => {
-            set_all(count, args, memory, values, counts, nodes, rows, bytes);
+pub fn answer<T: Cell>(rt: &impl Print, call: CellCall<'_>, cells: &mut [T]) -> io::Result<()> {
+    match call {
+        CellCall::Set { at, numbers } => {
+            set(cells, at, numbers);
             Ok(())
         }
-        RISE => {
-            rise(args, memory, values, counts, nodes, rows, bytes);
+        CellCall::Rise { at, n, back, step } => {
+            rise(cells, at, n, back, T::limited(step));
             Ok(())
         }
-        SHOW => show(rt, args, memory, values, counts, nodes, rows, bytes),
-        _ => tell_sum(rt, args, memory, values, counts, nodes, rows, bytes),
+        CellCall::Show { at, n } => say::numbers(rt, part(cells, at, n)),
+        CellCall::Sum { at, n } => say::numbers(rt, &[sum(part(cells, at, n))]),
     }
 }

@@ -1,111 +1,89 @@
-// Whole evaluation and row fill, over the lent parts of the buffers.
-use crate::buffers::{COUNTS, MEMORY, NODES, ROWS, VALUES, least, word};
-use crate::codes::FILL;
-use crate::held::Lent;
-use crate::input::ARGUMENTS;
-use crate::{say, steps};
+// Whole evaluation and row fill, over the lent cells.
+use crate::buffers::Buffers;
+use crate::cells::Cell;
+use crate::instructions::Unknown;
+use crate::say;
 use eval_circuit::eval_circuit;
-use rows::FillAnswer;
 use std::io;
 use trace::{CircuitEvaluation, RecordHeader};
 
-pub fn header_of(args: [u64; ARGUMENTS]) -> RecordHeader {
+#[derive(Clone, Copy)]
+pub enum CircuitCall {
+    Evaluate {
+        ctx: u32,
+        clk: u32,
+        ptr: u64,
+        num_vars: u64,
+        num_eval: u64,
+    },
+    Fill(RecordHeader, usize),
+    FillState(usize),
+}
+
+impl CircuitCall {
+    pub fn parse(code: u64, args: &[u64]) -> Result<Self, Unknown> {
+        match (code, args) {
+            (15, &[ctx, clk, ptr, num_vars, num_eval]) => Ok(Self::Evaluate {
+                ctx: u32::limited(ctx),
+                clk: u32::limited(clk),
+                ptr,
+                num_vars,
+                num_eval,
+            }),
+            (16, &[ctx, clk, num_read, num_eval, id_next, offset]) => Ok(Self::Fill(
+                header_of(ctx, clk, num_read, num_eval, id_next),
+                offset as usize,
+            )),
+            (17, &[offset]) => Ok(Self::FillState(offset as usize)),
+            _ => Err(Unknown),
+        }
+    }
+}
+
+pub fn header_of(ctx: u64, clk: u64, num_read: u64, num_eval: u64, id_next: u64) -> RecordHeader {
     RecordHeader {
-        ctx: word(args[0]),
-        clk: word(args[1]),
-        num_read: word(args[2]),
-        num_eval: word(args[3]),
-        id_next: args[4],
+        ctx: u32::limited(ctx),
+        clk: u32::limited(clk),
+        num_read: u32::limited(num_read),
+        num_eval: u32::limited(num_eval),
+        id_next,
     }
 }
 
-pub fn evaluate(
+pub fn answer(
     rt: &impl Print,
-    args: [u64; ARGUMENTS],
-    lent: Lent,
-    memory: &[u64],
-    values: &mut [u64],
-    counts: &mut [u32],
-    nodes: &mut [u64],
-) -> io::Result<()> {
-    let memory_cells = least(lent[MEMORY], memory.len());
-    let value_cells = least(lent[VALUES], values.len());
-    let count_cells = least(lent[COUNTS], counts.len());
-    let node_cells = least(lent[NODES], nodes.len());
-    steps::told(
-        rt,
-        eval_circuit(
-            word(args[0]),
-            word(args[1]),
-            args[2],
-            args[3],
-            args[4],
-            &memory[0..memory_cells],
-            &mut values[0..value_cells],
-            &mut counts[0..count_cells],
-            &mut nodes[0..node_cells],
-        ),
-    )
-}
-
-fn filled(rt: &impl Print, answer: FillAnswer) -> io::Result<()> {
-    match answer {
-        FillAnswer::Filled => say::accepted(rt),
-        FillAnswer::Refused(refusal, place) => say::refused(rt, refusal, place),
-    }
-}
-
-fn fill_lent(
-    rt: &impl Print,
-    code: u64,
-    args: [u64; ARGUMENTS],
+    call: CircuitCall,
     state: CircuitEvaluation,
-    values: &[u64],
-    counts: &[u32],
-    nodes: &[u64],
-    rows: &mut [u64],
+    lent: Buffers<'_>,
 ) -> io::Result<()> {
-    match code {
-        FILL => {
-            let offset = args[5] as usize;
-            filled(
-                rt,
-                rows::fill(header_of(args), values, counts, nodes, offset, rows),
-            )
+    let Buffers {
+        memory,
+        values,
+        counts,
+        nodes,
+        rows,
+        ..
+    } = lent;
+    match call {
+        CircuitCall::Evaluate {
+            ctx,
+            clk,
+            ptr,
+            num_vars,
+            num_eval,
+        } => {
+            let evaluated = eval_circuit(
+                ctx, clk, ptr, num_vars, num_eval, memory, values, counts, nodes,
+            );
+            say::answer(rt, evaluated.map(say::header_numbers))
         }
-        _ => {
-            let offset = args[0] as usize;
-            filled(
-                rt,
-                rows::fill_state(state, values, counts, nodes, offset, rows),
-            )
+        CircuitCall::Fill(header, offset) => {
+            let filled = rows::fill(header, values, counts, nodes, offset, rows);
+            say::answer(rt, filled.map(|()| []))
+        }
+        CircuitCall::FillState(offset) => {
+            let filled = rows::fill_state(state, values, counts, nodes, offset, rows);
+            say::answer(rt, filled.map(|()| []))
         }
     }
-}
-
-pub fn fill(
-    rt: &impl Print,
-    code: u64,
-    args: [u64; ARGUMENTS],
-    lent: Lent,
-    state: CircuitEvaluation,
-    values: &[u64],
-    counts: &[u32],
-    nodes: &[u64],
-    rows: &mut [u64],
-) -> io::Result<()> {
-    let value_cells = least(lent[VALUES], values.len());
-    let count_cells = least(lent[COUNTS], counts.len());
-    let node_cells = least(lent[NODES], nodes.len());
-    let row_cells = least(lent[ROWS], rows.len());
-    fill_lent(
-        rt,
-        code,
-        args,
-        state,
-        &values[0..value_cells],
-        &counts[0..count_cells],
-        &nodes[0..node_cells],
-        &mut rows[0..row_cells],
-    )
 }

@@ -1,62 +1,75 @@
 // Calls of the field, of pairs and of decoding.
-use crate::input::ARGUMENTS;
+use crate::instructions::Unknown;
 use crate::say;
-use field::felt::FeltAnswer;
-use field::quad::QuadAnswer;
 use field::{felt, quad};
-use instruction::{DecodeAnswer, Op, decode_instruction};
+use instruction::decode_instruction;
+use refusal::Refusal;
 use std::io;
 
-const ADD: u64 = 0;
-
-const SUB: u64 = 1;
-
-fn felt_answer(op: u64, a: u64, b: u64) -> FeltAnswer {
-    match op {
-        ADD => felt::add(a, b),
-        SUB => felt::sub(a, b),
-        _ => felt::mul(a, b),
-    }
+#[derive(Clone, Copy, Debug, PartialEq, Eq)]
+pub enum Operation {
+    Add,
+    Sub,
+    Mul,
 }
 
-pub fn felt(rt: &impl Print, args: [u64; ARGUMENTS]) -> io::Result<()> {
-    let answer = felt_answer(args[0], args[1], args[2]);
-    match answer {
-        FeltAnswer::Value(v) => say::one(rt, v),
-        FeltAnswer::Refused(refusal, place) => say::refused(rt, refusal, place),
-    }
-}
+impl TryFrom<u64> for Operation {
+    type Error = Unknown;
 
-fn quad_answer(op: u64, a: [u64; 2], b: [u64; 2]) -> QuadAnswer {
-    match op {
-        ADD => quad::add(a, b),
-        SUB => quad::sub(a, b),
-        _ => quad::mul(a, b),
-    }
-}
-
-pub fn quad(rt: &impl Print, args: [u64; ARGUMENTS]) -> io::Result<()> {
-    let answer = quad_answer(args[0], [args[1], args[2]], [args[3], args[4]]);
-    match answer {
-        QuadAnswer::Value(v0, v1) => say::two(rt, v0, v1),
-        QuadAnswer::Refused(refusal, place) => say::refused(rt, refusal, place),
-    }
-}
-
-fn number_of(op: Op) -> u64 {
-    match op {
-        Op::Sub => 0,
-        Op::Mul => 1,
-        Op::Add => 2,
-    }
-}
-
-pub fn decode(rt: &impl Print, args: [u64; ARGUMENTS]) -> io::Result<()> {
-    let answer = decode_instruction(args[0]);
-    match answer {
-        DecodeAnswer::Instruction(left, right, op) => {
-            say::numbers(rt, &[0, left as u64, right as u64, number_of(op)])
+    fn try_from(number: u64) -> Result<Self, Unknown> {
+        match number {
+            0 => Ok(Operation::Add),
+            1 => Ok(Operation::Sub),
+            2 => Ok(Operation::Mul),
+            _ => Err(Unknown),
         }
-        DecodeAnswer::Refused(refusal, place) => say::refused(rt, refusal, place),
+    }
+}
+
+#[derive(Clone, Copy)]
+pub enum ElementCall {
+    Felt(Operation, u64, u64),
+    Quad(Operation, [u64; 2], [u64; 2]),
+    Decode(u64),
+}
+
+impl ElementCall {
+    pub fn parse(code: u64, args: &[u64]) -> Result<Self, Unknown> {
+        match (code, args) {
+            (8, &[op, a, b]) => Ok(Self::Felt(Operation::try_from(op)?, a, b)),
+            (9, &[op, a0, a1, b0, b1]) => {
+                Ok(Self::Quad(Operation::try_from(op)?, [a0, a1], [b0, b1]))
+            }
+            (10, &[v]) => Ok(Self::Decode(v)),
+            _ => Err(Unknown),
+        }
+    }
+}
+
+fn felt_answer(op: Operation, a: u64, b: u64) -> Result<u64, Refusal> {
+    match op {
+        Operation::Add => felt::add(a, b),
+        Operation::Sub => felt::sub(a, b),
+        Operation::Mul => felt::mul(a, b),
+    }
+}
+
+// No generic of both: it would be passed the three functions, as they are named here.
+fn quad_answer(op: Operation, a: [u64; 2], b: [u64; 2]) -> Result<[u64; 2], Refusal> {
+    match op {
+        Operation::Add => quad::add(a, b),
+        Operation::Sub => quad::sub(a, b),
+        Operation::Mul => quad::mul(a, b),
+    }
+}
+
+pub fn answer(rt: &impl Print, call: ElementCall) -> io::Result<()> {
+    match call {
+        ElementCall::Felt(op, a, b) => say::answer(rt, felt_answer(op, a, b).map(|v| [v])),
+        ElementCall::Quad(op, a, b) => say::answer(rt, quad_answer(op, a, b)),
+        ElementCall::Decode(v) => say::answer(
+            rt,
+            decode_instruction(v).map(|(left, right, op)| [left.into(), right.into(), op as u64]),
+        ),
     }
 }

@@ -5,137 +5,75 @@ mod buffers;
 mod calls;
 mod cells;
 mod circuits;
-mod codes;
 mod elements;
 mod groups;
-mod held;
 mod input;
+mod instructions;
 mod lists;
-mod reads;
 mod records;
 mod say;
 mod steps;
 
 use crate::buffers::{
-    BYTE_CELLS, Bytes, COUNT_CELLS, Counts, MEMORY_CELLS, Memory, NODE_CELLS, Nodes, ROW_CELLS,
-    Rows, VALUE_CELLS, Values,
+    BYTE_CELLS, Buffers, COUNT_CELLS, MEMORY_CELLS, NODE_CELLS, ROW_CELLS, VALUE_CELLS,
 };
-use crate::held::Held;
-use crate::input::{INPUT_BYTES, Input, Instruction, Unread};
+use crate::calls::Held;
+use crate::input::{INPUT_BYTES, Input};
+use crate::instructions::{ARGUMENTS, Instruction};
 use std::io;
 use std::io::Read;
 
-// No input has so many instructions; without a bound nothing would say that the program ends.
-const INSTRUCTIONS: u64 = 0x4000_0000_0000_0000;
-
-#[derive(Drop)]
-struct Progress {
-    unread: Unread,
-    held: Held,
-    is_over: bool,
-}
-
-fn over(progress: Progress) -> Progress {
-    let mut last = progress;
-    last.is_over = true;
-    last
-}
-
-// Whether the program ends there. That there is no such instruction is said.
-fn ends(rt: &impl Print, asked: Instruction) -> io::Result<bool> {
-    if !asked.is_whole {
-        return Ok(true);
-    }
-    let args = asked.args;
-    if codes::is_known(asked.code, asked.count, args) {
-        return Ok(false);
-    }
-    say::unknown(rt)?;
-    Ok(true)
-}
-
-// After the next instruction.
-fn next(
+fn replay<R: Read>(
     rt: &impl Print,
-    reader: &mut impl Read,
-    progress: Progress,
-    input: &mut Input,
-    memory: &mut Memory,
-    values: &mut Values,
-    counts: &mut Counts,
-    nodes: &mut Nodes,
-    rows: &mut Rows,
-    bytes: &mut Bytes,
-) -> io::Result<Progress> {
-    let unread = input::filled(reader, input, progress.unread)?;
-    let asked = input::next(input, unread);
-    if ends(rt, asked)? {
-        return Ok(over(progress));
-    }
-    Ok(Progress {
-        unread: input::used(unread, asked.next),
-        held: calls::answer(
-            rt,
-            asked,
-            progress.held,
-            memory,
-            values,
-            counts,
-            nodes,
-            rows,
-            bytes,
-        )?,
-        is_over: false,
-    })
-}
-
-fn replay(
-    rt: &impl Print,
-    reader: &mut impl Read,
-    input: &mut Input,
-    memory: &mut Memory,
-    values: &mut Values,
-    counts: &mut Counts,
-    nodes: &mut Nodes,
-    rows: &mut Rows,
-    bytes: &mut Bytes,
+    input: &mut Input<'_, R>,
+    held: &mut Held<'_>,
 ) -> io::Result<()> {
-    let mut progress = Progress {
-        unread: input::nothing(),
-        held: held::nothing(),
-        is_over: false,
-    };
-    let mut done: u64 = 0;
-    while done < INSTRUCTIONS {
-        done += 1;
-        progress = next(
-            rt, reader, progress, input, memory, values, counts, nodes, rows, bytes,
-        )?;
-        if progress.is_over {
+    // No input has more instructions; without a bound nothing would say that the program ends.
+    for _ in 0..u64::MAX {
+        let Some(code) = input.number()? else {
             return Ok(());
+        };
+        let Some(count) = input.number()? else {
+            return Ok(());
+        };
+        let mut args = [0; ARGUMENTS];
+        // There is no such instruction, and its arguments would have no place.
+        let Some(args) = args.get_mut(..count as usize) else {
+            return say::unknown(rt);
+        };
+        for arg in args.iter_mut() {
+            let Some(number) = input.number()? else {
+                return Ok(());
+            };
+            *arg = number;
         }
+        let Ok(instruction) = Instruction::parse(code, args) else {
+            return say::unknown(rt);
+        };
+        held.answer(rt, instruction)?;
     }
     Ok(())
 }
 
 fn main(rt: HostRuntime) -> io::Result<()> {
-    let mut input = [0u8; INPUT_BYTES];
-    let mut memory = [0u64; MEMORY_CELLS];
-    let mut values = [0u64; VALUE_CELLS];
-    let mut counts = [0u32; COUNT_CELLS];
-    let mut nodes = [0u64; NODE_CELLS];
-    let mut rows = [0u64; ROW_CELLS];
-    let mut bytes = [0u8; BYTE_CELLS];
+    let mut input_bytes = [0; INPUT_BYTES];
+    let mut memory = [0; MEMORY_CELLS];
+    let mut values = [0; VALUE_CELLS];
+    let mut counts = [0; COUNT_CELLS];
+    let mut nodes = [0; NODE_CELLS];
+    let mut rows = [0; ROW_CELLS];
+    let mut bytes = [0; BYTE_CELLS];
     let mut stdin = rt.stdin();
     replay(
         &rt,
-        &mut stdin,
-        &mut input,
-        &mut memory,
-        &mut values,
-        &mut counts,
-        &mut nodes,
-        &mut rows,
-        &mut bytes,
+        &mut Input::new(&mut stdin, &mut input_bytes),
+        &mut Held::new(Buffers::new(
+            &mut memory,
+            &mut values,
+            &mut counts,
+            &mut nodes,
+            &mut rows,
+            &mut bytes,
+        )),
     )
 }

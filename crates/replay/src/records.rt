@@ -1,90 +1,56 @@
-// Record writer and reader, over the lent parts of the buffers.
-use crate::buffers::{BYTES, COUNTS, NODES, VALUES, least};
+// Record writer and reader, over the lent cells.
+use crate::buffers::Buffers;
 use crate::circuits::header_of;
-use crate::codes::WRITE;
-use crate::held::Lent;
-use crate::input::ARGUMENTS;
-use crate::{groups, say};
+use crate::instructions::Unknown;
+use crate::say;
 use std::io;
-use trace::{CircuitEvaluation, HeaderAnswer};
+use trace::{CircuitEvaluation, RecordHeader};
 
-fn write_lent(
-    rt: &impl Print,
-    code: u64,
-    args: [u64; ARGUMENTS],
-    state: CircuitEvaluation,
-    values: &[u64],
-    counts: &[u32],
-    nodes: &[u64],
-    bytes: &mut [u8],
-) -> io::Result<()> {
-    match code {
-        WRITE => {
-            groups::written(
-                rt,
-                record::write_into(header_of(args), values, counts, nodes, bytes),
-            )
+#[derive(Clone, Copy)]
+pub enum RecordCall {
+    Write(RecordHeader),
+    WriteState,
+    Read,
+}
+
+impl RecordCall {
+    pub fn parse(code: u64, args: &[u64]) -> Result<Self, Unknown> {
+        match (code, args) {
+            (18, &[ctx, clk, num_read, num_eval, id_next]) => {
+                Ok(Self::Write(header_of(ctx, clk, num_read, num_eval, id_next)))
+            }
+            (19, []) => Ok(Self::WriteState),
+            (20, []) => Ok(Self::Read),
+            _ => Err(Unknown),
         }
-        _ => groups::written(
-            rt,
-            record::write_state_into(state, values, counts, nodes, bytes),
-        ),
     }
 }
 
-pub fn write(
+pub fn answer(
     rt: &impl Print,
-    code: u64,
-    args: [u64; ARGUMENTS],
-    lent: Lent,
+    call: RecordCall,
     state: CircuitEvaluation,
-    values: &[u64],
-    counts: &[u32],
-    nodes: &[u64],
-    bytes: &mut [u8],
+    lent: Buffers<'_>,
 ) -> io::Result<()> {
-    let value_cells = least(lent[VALUES], values.len());
-    let count_cells = least(lent[COUNTS], counts.len());
-    let node_cells = least(lent[NODES], nodes.len());
-    let room = least(lent[BYTES], bytes.len());
-    write_lent(
-        rt,
-        code,
-        args,
-        state,
-        &values[0..value_cells],
-        &counts[0..count_cells],
-        &nodes[0..node_cells],
-        &mut bytes[0..room],
-    )
-}
-
-fn told(rt: &impl Print, answer: HeaderAnswer) -> io::Result<()> {
-    match answer {
-        HeaderAnswer::Header(header) => say::header(rt, header),
-        HeaderAnswer::Refused(refusal, place) => say::refused(rt, refusal, place),
+    let Buffers {
+        values,
+        counts,
+        nodes,
+        bytes,
+        ..
+    } = lent;
+    match call {
+        RecordCall::Write(header) => {
+            let written = record::write_into(header, values, counts, nodes, bytes);
+            say::answer(rt, written.map(|len| [len as u64]))
+        }
+        RecordCall::WriteState => {
+            let written = record::write_state_into(state, values, counts, nodes, bytes);
+            say::answer(rt, written.map(|len| [len as u64]))
+        }
+        RecordCall::Read => {
+            let read = record::read_from(bytes, values, counts, nodes);
+            say::answer(rt, read.map(say::header_numbers))
+        }
     }
-}
-
-pub fn read(
-    rt: &impl Print,
-    lent: Lent,
-    values: &mut [u64],
-    counts: &mut [u32],
-    nodes: &mut [u64],
-    bytes: &[u8],
-) -> io::Result<()> {
-    let value_cells = least(lent[VALUES], values.len());
-    let count_cells = least(lent[COUNTS], counts.len());
-    let node_cells = least(lent[NODES], nodes.len());
-    let end = least(lent[BYTES], bytes.len());
-    told(
-        rt,
-        record::read_from(
-            &bytes[0..end],
-            &mut values[0..value_cells],
-            &mut counts[0..count_cells],
-            &mut nodes[0..node_cells],
-        ),
-    )
 }

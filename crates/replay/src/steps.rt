@@ -1,103 +1,131 @@
-// Calls of the step state, over the lent parts of the buffers; the state after the call is given back.
-use crate::buffers::{COUNTS, NODES, VALUES, least};
-use crate::codes::{EVAL, OPEN, READ};
-use crate::held::{Lent, state_of};
-use crate::input::ARGUMENTS;
+// The step state, and its calls, over the lent cells.
+use crate::buffers::Buffers;
+use crate::cells::Cell;
+use crate::instructions::Unknown;
 use crate::say;
+use refusal::Refusal;
 use std::io;
-use trace::{CircuitEvaluation, OpenAnswer, OutputAnswer, StepAnswer};
+use trace::{CircuitEvaluation, RefusedStep};
 
-// A refused opening gives no state, and the one before stays.
-fn open(
+#[derive(Clone, Copy)]
+pub enum StepCall {
+    Open {
+        ctx: u32,
+        clk: u32,
+        num_read: u32,
+        num_eval: u32,
+    },
+    Read(u64, [[u64; 2]; 2]),
+    Eval(u64, u64),
+    Output,
+}
+
+impl StepCall {
+    pub fn parse(code: u64, args: &[u64]) -> Result<Self, Unknown> {
+        match (code, args) {
+            (11, &[ctx, clk, num_read, num_eval]) => Ok(Self::Open {
+                ctx: u32::limited(ctx),
+                clk: u32::limited(clk),
+                num_read: u32::limited(num_read),
+                num_eval: u32::limited(num_eval),
+            }),
+            (12, &[ptr, c0, c1, c2, c3]) => Ok(Self::Read(ptr, [[c0, c1], [c2, c3]])),
+            (13, &[ptr, instruction]) => Ok(Self::Eval(ptr, instruction)),
+            (14, []) => Ok(Self::Output),
+            _ => Err(Unknown),
+        }
+    }
+}
+
+pub fn parse_state(args: &[u64]) -> Result<CircuitEvaluation, Unknown> {
+    let &[
+        ctx,
+        clk,
+        num_read,
+        num_eval,
+        reads_done,
+        evals_done,
+        id_next,
+    ] = args
+    else {
+        return Err(Unknown);
+    };
+    Ok(CircuitEvaluation {
+        ctx: u32::limited(ctx),
+        clk: u32::limited(clk),
+        num_read: u32::limited(num_read),
+        num_eval: u32::limited(num_eval),
+        reads_done: u32::limited(reads_done),
+        evals_done: u32::limited(evals_done),
+        id_next,
+    })
+}
+
+pub fn nothing() -> CircuitEvaluation {
+    CircuitEvaluation {
+        ctx: 0,
+        clk: 0,
+        num_read: 0,
+        num_eval: 0,
+        reads_done: 0,
+        evals_done: 0,
+        id_next: 0,
+    }
+}
+
+// "After the answer, whatever it is, the state that came back."
+fn stepped(
     rt: &impl Print,
-    args: [u64; ARGUMENTS],
-    state: CircuitEvaluation,
-    values: &[u64],
-    counts: &[u32],
-    nodes: &[u64],
-) -> io::Result<CircuitEvaluation> {
-    let s = state_of(args);
-    let answer = CircuitEvaluation::new(
-        s.ctx, s.clk, s.num_read, s.num_eval, values, counts, nodes,
-    );
-    match answer {
-        OpenAnswer::Opened(opened) => {
-            say::accepted(rt)?;
-            say::state(rt, opened)?;
-            Ok(opened)
-        }
-        OpenAnswer::Refused(refusal, place) => {
-            say::refused(rt, refusal, place)?;
-            Ok(state)
-        }
-    }
-}
-
-fn stepped(rt: &impl Print, answer: StepAnswer) -> io::Result<CircuitEvaluation> {
-    match answer {
-        StepAnswer::Done(state) => {
-            say::accepted(rt)?;
-            say::state(rt, state)?;
-            Ok(state)
-        }
-        StepAnswer::Refused(state, refusal, place) => {
-            say::refused(rt, refusal, place)?;
-            say::state(rt, state)?;
-            Ok(state)
-        }
-    }
-}
-
-pub fn told(rt: &impl Print, answer: OutputAnswer) -> io::Result<()> {
-    match answer {
-        OutputAnswer::Zero(header) => say::header(rt, header),
-        OutputAnswer::Refused(refusal, place) => say::refused(rt, refusal, place),
-    }
-}
-
-fn call(
-    rt: &impl Print,
-    code: u64,
-    args: [u64; ARGUMENTS],
-    state: CircuitEvaluation,
-    values: &mut [u64],
-    counts: &mut [u32],
-    nodes: &mut [u64],
-) -> io::Result<CircuitEvaluation> {
-    match code {
-        OPEN => open(rt, args, state, values, counts, nodes),
-        READ => {
-            let word = [[args[1], args[2]], [args[3], args[4]]];
-            stepped(rt, state.do_read(args[0], word, values, counts, nodes))
-        }
-        EVAL => stepped(rt, state.do_eval(args[0], args[1], values, counts, nodes)),
-        _ => {
-            told(rt, state.output_value(values, counts, nodes))?;
-            Ok(state)
-        }
-    }
+    outcome: Result<CircuitEvaluation, RefusedStep>,
+    state: &mut CircuitEvaluation,
+) -> io::Result<()> {
+    *state = match outcome {
+        Ok(after) => after,
+        Err(refused) => refused.state,
+    };
+    say::answer(rt, outcome.map(|_| []).map_err(Refusal::from))?;
+    say::numbers(rt, &say::state_numbers(*state))
 }
 
 pub fn answer(
     rt: &impl Print,
-    code: u64,
-    args: [u64; ARGUMENTS],
-    lent: Lent,
-    state: CircuitEvaluation,
-    values: &mut [u64],
-    counts: &mut [u32],
-    nodes: &mut [u64],
-) -> io::Result<CircuitEvaluation> {
-    let value_cells = least(lent[VALUES], values.len());
-    let count_cells = least(lent[COUNTS], counts.len());
-    let node_cells = least(lent[NODES], nodes.len());
-    call(
-        rt,
-        code,
-        args,
-        state,
-        &mut values[0..value_cells],
-        &mut counts[0..count_cells],
-        &mut nodes[0..node_cells],
-    )
+    call: StepCall,
+    state: &mut CircuitEvaluation,
+    lent: Buffers<'_>,
+) -> io::Result<()> {
+    let Buffers {
+        values,
+        counts,
+        nodes,
+        ..
+    } = lent;
+    match call {
+        StepCall::Open {
+            ctx,
+            clk,
+            num_read,
+            num_eval,
+        } => {
+            let opened = CircuitEvaluation::new(
+                ctx, clk, num_read, num_eval, values, counts, nodes,
+            );
+            // A refused opening gives no state, and the one before stays.
+            if let Ok(opened) = opened {
+                *state = opened;
+            }
+            say::answer(rt, opened.map(say::state_numbers))
+        }
+        StepCall::Read(ptr, word) => {
+            let outcome = state.do_read(ptr, word, values, counts, nodes);
+            stepped(rt, outcome, state)
+        }
+        StepCall::Eval(ptr, instruction) => {
+            let outcome = state.do_eval(ptr, instruction, values, counts, nodes);
+            stepped(rt, outcome, state)
+        }
+        StepCall::Output => {
+            let output = state.output_value(values, counts, nodes);
+            say::answer(rt, output.map(say::header_numbers))
+        }
+    }
 }

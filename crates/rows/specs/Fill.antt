@@ -1,21 +1,20 @@
 -- Row fill: for every input the answer, and the row buffer after it.
 -- Assumes nothing.
-use Rattle.std.specs.Prelude.{ℕ, ◌+◌, ◌*◌, cond, List, [], leb, length}
+use Rattle.std.specs.Prelude.{Result, ℕ, ◌+◌, ◌*◌, cond, List, [], leb, length}
 use Rattle.std.proofs.lemmas.List.Edits.{sets}
 use Rattle.refusal.specs.Told.{Told, accepted, refused, changed}
+use Rattle.refusal.specs.Refusal.{told, nothing}
+use Rattle.refusal.specs.declared.Refusal.{Refusal}
 use Rattle.trace.specs.declared.CircuitEvaluation.{CircuitEvaluation}
 use Rattle.trace.specs.declared.RecordHeader.{RecordHeader}
 use Rattle.trace.specs.Outcome.{Lent}
 use Rattle.trace.specs.Output.{header_of}
 use Rattle.trace.specs.Record.{of_record, of_finalized}
 use Rattle.rows.specs.Rows.{record_rows}
-use Rattle.rows.specs.declared.FillAnswer.{FillAnswer}
-use Rattle.rows.specs.declared.FillAnswer.TheVariants.{Filled, Refused}
 
 -- each case of an answer, by number, place and values
-abbrev pub fill_told : FillAnswer → Told
-fill_told Filled = accepted []
-fill_told (Refused number place) = refused number place
+abbrev pub fill_told : Result Unit Refusal → Told
+fill_told = told nothing
 
 -- 14: "row buffer shorter than 16·(offset + rows)"
 unfoldable pub of_rows : ℕ → ℕ → ℕ → Told → Told

@@ -1,6 +1,6 @@
 -- What the private functions promise each other. No public contract cites this file.
 -- Assumes nothing.
-use Rattle.std.specs.Prelude.{ℕ, ◌≤◌, ◌<◌, List, [], ◌∷◌, length, get_or}
+use Rattle.std.specs.Prelude.{◌≡◌, ℕ, ◌≤◌, ◌<◌, List, [], ◌∷◌, length, get_or}
 use Rattle.field.specs.Answer.{pair_of}
 use Rattle.trace.specs.declared.RecordHeader.{RecordHeader}
 use Rattle.trace.specs.Record.{most_record_wires, record_wires, record_cells}
@@ -19,3 +19,7 @@ pub record Held (h : RecordHeader) (cs ns : List ℕ) : Type 0 where
   pub some_evals : 0 < h.num_eval
   pub held-counts : record_wires h ≤ length cs
   pub held-nodes : record_cells h ≤ length ns
+
+-- what is made for each of so many rows has the cells of that row
+abbrev pub MakesRows : (ℕ → AceCols → Type 0) → ℕ → (ℕ → List ℕ) → Type 0
+MakesRows made num row = ((i : ℕ) (cols : AceCols) → i < num → made i cols → col_cells cols ≡ row i) × ((i : ℕ) → length (row i) ≡ 16)

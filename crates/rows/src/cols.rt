@@ -1,10 +1,10 @@
 // The columns of a row, by name.
-ghost use Rattle.std.specs.Prelude.{◌≡◌, ◌+◌, ◌*◌, ◌≤◌, ◌<◌, length};
+ghost use Rattle.std.specs.Prelude.{◌≡◌, ◌+◌, ◌≤◌, ◌<◌, length};
 ghost use Rattle.std.proofs.lemmas.List.Edits.{sets};
-ghost use Rattle.rows.specs.Rows.{s_start_of, read_row_at, eval_row_at};
+ghost use Rattle.rows.specs.Rows.{record_read_row, record_eval_row};
 ghost use Rattle.rows.specs.Inside.{col_cells, Held};
 
-use trace::RecordHeader;
+use trace::{EVAL_CELLS, READ_CELLS, RecordHeader};
 
 #[derive(Clone, Copy)]
 pub struct AceCols {
@@ -22,35 +22,22 @@ pub struct AceCols {
     pub four: [u64; 4],
 }
 
-// "s_start is 1 only on the first READ row."
-fn s_start(i: usize) -> u64
-    ensures { result ≡ s_start_of i }
+// READ row i. "Counts go by position, as in the Rust, whatever ids the nodes hold."
+pub fn read_cols(header: RecordHeader, counts: &[u32], nodes: &[u64], i: usize) -> AceCols
+    requires { Held header counts.now nodes.now × (i < header.num_read) }
+    ensures { col_cells result ≡ record_read_row header counts.now nodes.now i }
 {
-    if i == 0 { 1 } else { 0 }
-}
-
-// READ row i, from the node whose cells begin at `at`. "Counts go by position, as in the Rust,
-// whatever ids the nodes hold."
-pub fn read_cols(
-    header: RecordHeader,
-    counts: &[u32],
-    nodes: &[u64],
-    i: usize,
-    at: usize,
-) -> AceCols
-    requires { Held header counts.now nodes.now × (i < header.num_read) × (at + 7 ≤ length nodes.now) }
-    ensures { col_cells result ≡ read_row_at header counts.now nodes.now i at }
-{
-    let first = s_start(i);
-    let m_0 = counts[2 * i] as u64;
-    let m_1 = counts[2 * i + 1] as u64;
-    let last_eval = header.num_eval as u64 - 1;
+    let at = READ_CELLS * i;
+    let m_0 = u64::from(counts[2 * i]);
+    let m_1 = u64::from(counts[2 * i + 1]);
+    let last_eval = u64::from(header.num_eval) - 1;
     AceCols {
-        s_start: first,
+        // "s_start is 1 only on the first READ row."
+        s_start: u64::from(i == 0),
         s_block: 0,
-        ctx: header.ctx as u64,
+        ctx: u64::from(header.ctx),
         ptr: nodes[at],
-        clk: header.clk as u64,
+        clk: u64::from(header.clk),
         eval_op: 0,
         id_0: nodes[at + 1],
         v_0: [nodes[at + 2], nodes[at + 3]],
@@ -60,24 +47,20 @@ pub fn read_cols(
     }
 }
 
-// EVAL row j, from the node whose cells begin at `at`.
-pub fn eval_cols(
-    header: RecordHeader,
-    counts: &[u32],
-    nodes: &[u64],
-    j: usize,
-    at: usize,
-) -> AceCols
-    requires { Held header counts.now nodes.now × (j < header.num_eval) × (at + 11 ≤ length nodes.now) }
-    ensures { col_cells result ≡ eval_row_at header counts.now nodes.now j at }
+// EVAL row j.
+pub fn eval_cols(header: RecordHeader, counts: &[u32], nodes: &[u64], j: usize) -> AceCols
+    requires { Held header counts.now nodes.now × (j < header.num_eval) }
+    ensures { col_cells result ≡ record_eval_row header counts.now nodes.now j }
 {
-    let m_0 = counts[2 * header.num_read as usize + j] as u64;
+    let num_read = header.num_read as usize;
+    let at = READ_CELLS * num_read + EVAL_CELLS * j;
+    let m_0 = u64::from(counts[2 * num_read + j]);
     AceCols {
         s_start: 0,
         s_block: 1,
-        ctx: header.ctx as u64,
+        ctx: u64::from(header.ctx),
         ptr: nodes[at],
-        clk: header.clk as u64,
+        clk: u64::from(header.clk),
         eval_op: nodes[at + 1],
         id_0: nodes[at + 2],
         v_0: [nodes[at + 3], nodes[at + 4]],

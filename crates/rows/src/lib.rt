@@ -8,21 +8,13 @@ ghost use Rattle.std.specs.Prelude.{◌≡◌};
 ghost use Rattle.trace.specs.Outcome.{lent};
 ghost use Rattle.rows.specs.Fill.{fill_told, fill_answer, filled_rows, fill_state_answer, state_rows};
 
-use crate::sections::{fill_evals, fill_reads};
-use trace::{CircuitEvaluation, HeaderAnswer, RecordHeader, Tested};
+use crate::cols::{eval_cols, read_cols};
+use crate::sections::fill_rows;
+use refusal::Refusal;
+use trace::{CircuitEvaluation, RecordHeader};
 
 // The cells of a row.
 pub const ACE_CHIPLET_NUM_COLS: usize = 16;
-
-// The refusal of a row buffer that is too short.
-pub const SHORT_ROWS: u32 = 14;
-
-// That the rows are written, or the refusal's number and place.
-#[derive(Clone, Copy)]
-pub enum FillAnswer {
-    Filled,
-    Refused(u32, u64),
-}
 
 // "21, 19, 6, 17 (a used value or node cell, or id_next, p or more), then fill 14". "A refusal
 // changes nothing."
@@ -33,27 +25,32 @@ pub fn fill(
     nodes: &[u64],
     offset: usize,
     rows: &mut [u64],
-) -> FillAnswer
+) -> Result<(), Refusal>
     ensures result_value { fill_told result ≡ fill_answer header (lent values.now counts.now nodes.now) offset rows.old }
     ensures rows_after { rows.new ≡ filled_rows header (lent values.now counts.now nodes.now) offset rows.old }
 {
-    let tested = header.test(values, counts, nodes);
-    if let Tested::Refused(number, place) = tested {
-        return FillAnswer::Refused(number, place);
-    }
+    header.test(values, counts, nodes)?;
     let num_read = header.num_read as usize;
-    let num_rows = num_read + header.num_eval as usize;
+    let num_eval = header.num_eval as usize;
+    let num_rows = num_read + num_eval;
     // Offsets and sums are whole numbers: none of them is made before it is known to fit.
     let room = rows.len() / ACE_CHIPLET_NUM_COLS;
-    if room < num_rows {
-        return FillAnswer::Refused(SHORT_ROWS, 0);
+    if room < num_rows || room - num_rows < offset {
+        return Err(Refusal::ShortRows);
     }
-    if room - num_rows < offset {
-        return FillAnswer::Refused(SHORT_ROWS, 0);
-    }
-    fill_reads(header, counts, nodes, offset, rows);
-    fill_evals(header, counts, nodes, offset + num_read, rows);
-    FillAnswer::Filled
+    fill_rows(
+        rows,
+        offset,
+        num_read,
+        |i| read_cols(header, counts, nodes, i),
+    );
+    fill_rows(
+        rows,
+        offset + num_read,
+        num_eval,
+        |j| eval_cols(header, counts, nodes, j),
+    );
+    Ok(())
 }
 
 // "Given a step state, 13 and 11 come before these."
@@ -64,13 +61,10 @@ pub fn fill_state(
     nodes: &[u64],
     offset: usize,
     rows: &mut [u64],
-) -> FillAnswer
+) -> Result<(), Refusal>
     ensures result_value { fill_told result ≡ fill_state_answer state (lent values.now counts.now nodes.now) offset rows.old }
     ensures rows_after { rows.new ≡ state_rows state (lent values.now counts.now nodes.now) offset rows.old }
 {
-    let finalized = state.finalized();
-    match finalized {
-        HeaderAnswer::Header(header) => fill(header, values, counts, nodes, offset, rows),
-        HeaderAnswer::Refused(number, place) => FillAnswer::Refused(number, place),
-    }
+    let header = state.finalized()?;
+    fill(header, values, counts, nodes, offset, rows)
 }

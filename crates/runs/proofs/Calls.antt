@@ -3,19 +3,20 @@
 use mathlib.Core.Path.{◌≡◌, refl, sym, ap, ◌∙◌}
 use mathlib.Core.Bool.{Bool, true, false}
 use mathlib.Core.List.{List, ◌++◌}
+use Rattle.std.specs.Prelude.{Ok, Err}
 use Prim.Native.Nat.{ℕ, suc, ◌+◌, ◌≤◌, ◌<◌}
 use native.Mathlib.Numerals.{add-one}
 use native.Mathlib.Omega.{arith}
-use lib.Dec.{ltb, eqb}
-use lib.ListN.{length, get_or, set, take, drop, length-set}
-use lib.Seq.{length-take-le, get_or-take, take-take}
+use lib.Dec.{ltb}
+use lib.ListN.{length, set, take, drop, length-set}
+use lib.Seq.{length-take-le, take-take}
 use borrow.Author.Tests.{ltb-true, leb-true}
-use Rattle.trace.proofs.Choices.{both, first_holds, first_fails}
+use Rattle.trace.proofs.Choices.{both}
 use Rattle.runs.specs.declared.Entry.{Entry}
 use Rattle.runs.specs.declared.Ace.{Ace}
 use Rattle.runs.specs.Entries.{in_order, total, rows_before, has_clock, insert}
 use Rattle.runs.specs.Calls.{most_runs, used, sound_list, with_used}
-use Rattle.runs.specs.Inside.{place_of, no_entry, is_at, replaced, opened, opened_at}
+use Rattle.runs.specs.Inside.{place_of, place_answer, opened, opened_at}
 use Rattle.runs.proofs.Scans.{list_of}
 use Rattle.runs.proofs.Places.{found, found_has, before_place, insert_found, insert_new, place_within}
 use Rattle.runs.proofs.Opened.{opened-length, opened-used, set-used}
@@ -32,34 +33,44 @@ sound_of a q = let b = both _ _ q in record { few = leb-true _ _ b.0; order = b.
 pub used-length : (a : Ace) → length a.entries ≡ 32 → a.len ≤ most_runs → length (used a) ≡ a.len
 used-length a l h = length-take-le a.len a.entries (omega arith)
 
--- where the clock is, and whether it is there
-by_place : (b : Bool) (a : Ace) (at clock : ℕ) → ltb at a.len ≡ b → length (used a) ≡ a.len → is_at a at clock ≡ found (used a) at clock
-by_place true a at clock q l =
-    first_holds (ltb at a.len) _ q
-    ∙ ap (λ (e : Entry). eqb e.clk clock) (sym (get_or-take a.len a.entries at no_entry (ltb-true at a.len q)))
-    ∙ sym (first_holds (ltb at (length (used a))) _ (ap (λ (n : ℕ). ltb at n) l ∙ q))
-by_place false a at clock q l =
-    first_fails (ltb at a.len) (eqb (get_or a.entries at no_entry).clk clock) q
-    ∙ sym (first_fails (ltb at (length (used a))) (eqb (get_or (used a) at no_entry).clk clock) (ap (λ (n : ℕ). ltb at n) l ∙ q))
+-- what a search says of a clock
+pub told_there : (es : List Entry) (clock at : ℕ) → Ok at ≡ place_answer clock es → (has_clock clock es ≡ true) × (at ≡ place_of clock es)
+told_there es clock at q = by_case (has_clock clock es) refl
+  where
+    by_case : (b : Bool) → has_clock clock es ≡ b → (has_clock clock es ≡ true) × (at ≡ place_of clock es)
+    by_case true h = let t : Ok at ≡ Ok (place_of clock es) = rw h at q in (h, cc)
+    by_case false h = let t : Ok at ≡ Err (place_of clock es) = rw h at q in cc
 
-at_found : (a : Ace) (at clock : ℕ) → length a.entries ≡ 32 → a.len ≤ most_runs → is_at a at clock ≡ found (used a) at clock
-at_found a at clock l h = by_place (ltb at a.len) a at clock refl (used-length a l h)
-
-pub at_has : (a : Ace) (clock : ℕ) → length a.entries ≡ 32 → Sound a → is_at a (place_of clock (used a)) clock ≡ has_clock clock (used a)
-at_has a clock l s = at_found a (place_of clock (used a)) clock l s.few ∙ sym (found_has (used a) 0 clock s.order)
+pub told_lacking : (es : List Entry) (clock at : ℕ) → Err at ≡ place_answer clock es → (has_clock clock es ≡ false) × (at ≡ place_of clock es)
+told_lacking es clock at q = by_case (has_clock clock es) refl
+  where
+    by_case : (b : Bool) → has_clock clock es ≡ b → (has_clock clock es ≡ false) × (at ≡ place_of clock es)
+    by_case false h = let t : Err at ≡ Err (place_of clock es) = rw h at q in (h, cc)
+    by_case true h = let t : Err at ≡ Ok (place_of clock es) = rw h at q in cc
 
 place_few : (a : Ace) (clock : ℕ) → length a.entries ≡ 32 → Sound a → place_of clock (used a) ≤ a.len
 place_few a clock l s = let z = used-length a l s.few in let w = place_within clock (used a) in omega arith
 
-at_few : (a : Ace) (at clock : ℕ) → is_at a at clock ≡ true → at < a.len
-at_few a at clock q = ltb-true at a.len (both (ltb at a.len) _ q).0
+-- the clock is there exactly where the entry at its place has it
+at_place : (a : Ace) (clock : ℕ) (b : Bool) → Sound a → has_clock clock (used a) ≡ b → found (used a) (place_of clock (used a)) clock ≡ b
+at_place a clock b s h = sym (found_has (used a) 0 clock s.order) ∙ h
+
+there_few : (a : Ace) (clock at : ℕ) → at ≡ place_of clock (used a) → length a.entries ≡ 32 → Sound a → has_clock clock (used a) ≡ true → at < a.len
+there_few a clock at p l s h =
+    let k = ltb-true _ _ (both (ltb (place_of clock (used a)) (length (used a))) _ (at_place a clock true s h)).0 in
+    let z = used-length a l s.few in
+    omega arith
+
+pub there_low : (a : Ace) (clock at : ℕ) → length a.entries ≡ 32 → Sound a → Ok at ≡ place_answer clock (used a) → at < most_runs
+there_low a clock at l s q =
+    let there = told_there (used a) clock at q in
+    let k = there_few a clock at there.1 l s there.0 in
+    let h = s.few in
+    omega arith
 
 -- the same of a place that was found
 pub place_most : (a : Ace) (clock at : ℕ) → at ≡ place_of clock (used a) → length a.entries ≡ 32 → Sound a → at ≤ most_runs
 place_most a clock at p l s = let h = s.few in let w = place_few a clock l s in omega arith
-
-pub at_most : (a : Ace) (at clock : ℕ) (b : Bool) → b ≡ is_at a at clock → b ≡ true → Sound a → at < most_runs
-at_most a at clock b i y s = let h = s.few in let k = at_few a at clock (sym i ∙ y) in omega arith
 
 pub place_room : (a : Ace) (clock at : ℕ) → at ≡ place_of clock (used a) → length a.entries ≡ 32 → Sound a → (a.len ≡ most_runs → ⊥)
     → (at ≤ a.len) × (a.len < most_runs)
@@ -72,16 +83,16 @@ total-before a clock l s =
     ∙ sym (before_place (used a) 0 clock s.order)
 
 -- the list after a run is added
-pub replaced_is : (a : Ace) (e : Entry) → length a.entries ≡ 32 → Sound a → is_at a (place_of e.clk (used a)) e.clk ≡ true
-    → replaced a (place_of e.clk (used a)) e ≡ with_used a (insert e (used a))
-replaced_is a e l s q =
+pub replaced_is : (a : Ace) (e : Entry) → length a.entries ≡ 32 → Sound a → has_clock e.clk (used a) ≡ true
+    → list_of (set a.entries (place_of e.clk (used a)) e) a.len ≡ with_used a (insert e (used a))
+replaced_is a e l s h =
     let at = place_of e.clk (used a) in
     let n : length (set (used a) at e) ≡ a.len = length-set (used a) at e ∙ used-length a l s.few in
-    ap (λ (es : List Entry). list_of es a.len) (set-used a.entries at a.len e (at_few a at e.clk q))
+    ap (λ (es : List Entry). list_of es a.len) (set-used a.entries at a.len e (there_few a e.clk at refl l s h))
     ∙ ap (λ (k : ℕ). list_of (set (used a) at e ++ drop k a.entries) k) (sym n)
-    ∙ ap (with_used a) (sym (insert_found e (used a) (sym (at_found a at e.clk l s.few) ∙ q)))
+    ∙ ap (with_used a) (sym (insert_found e (used a) (at_place a e.clk true s h)))
 
-pub opened_is : (a : Ace) (e : Entry) → length a.entries ≡ 32 → Sound a → is_at a (place_of e.clk (used a)) e.clk ≡ false
+pub opened_is : (a : Ace) (e : Entry) → length a.entries ≡ 32 → Sound a → has_clock e.clk (used a) ≡ false
     → opened_at a (place_of e.clk (used a)) e ≡ with_used a (insert e (used a))
 opened_is a e l s q =
     let at = place_of e.clk (used a) in
@@ -92,4 +103,4 @@ opened_is a e l s q =
     ap (λ (es : List Entry). list_of (es ++ drop (a.len + 1) a.entries) (a.len + 1))
     (ap (λ (k : ℕ). take k (opened a.entries at e)) (add-one a.len) ∙ opened-used a.entries at a.len e p h)
     ∙ ap (λ (k : ℕ). list_of (opened (used a) at e ++ drop k a.entries) k) (sym n)
-    ∙ ap (with_used a) (sym (insert_new e (used a) (sym (at_found a at e.clk l s.few) ∙ q)))
+    ∙ ap (with_used a) (sym (insert_new e (used a) (at_place a e.clk false s q)))

@@ -1,4 +1,3 @@
-pub mod Held
 pub mod Orders
 pub mod Places
 pub mod Opened
@@ -7,6 +6,7 @@ pub mod Calls
 pub mod Ways
 pub mod Among
 pub mod Rising
+pub mod Search
 pub mod Inserted
 pub mod Added
 pub mod Refused

@@ -1,10 +1,16 @@
 -- A sound list, entry by entry: rising clocks, and counts that opening accepts.
 -- Assumes nothing.
-use mathlib.Core.Path.{◌≡◌, sym, ap, ◌∙◌}
-use mathlib.Core.Bool.{true}
+use mathlib.Core.Path.{◌≡◌, refl, sym, ap, ◌∙◌}
+use mathlib.Core.Bool.{Bool, true, false, true≢false}
+use Rattle.std.proofs.Common.{IsTrue, ◌↔◌, All}
+use Rattle.std.specs.List.{AllAdjacentBelow}
+use Rattle.std.proofs.lemmas.List.{get_or_default}
+use lib.Dec.{ltb}
+use borrow.Author.Tests.{lt-ltb, ltb-true}
+use Rattle.std.proofs.lemmas.Bool.{false_from_ne_true}
 use mathlib.Core.List.{List, [], ◌∷◌}
 use mathlib.Core.Logic.{⊎_elim}
-use Prim.Native.Nat.{ℕ, zero, suc, ◌≤◌, ◌<◌}
+use Prim.Native.Nat.{ℕ, zero, suc, ◌+◌, ◌-◌, ◌≤◌, ◌<◌}
 use native.Mathlib.Omega.{arith}
 use lib.ListN.{length, get_or}
 use lib.Seq.{get_or-take}
@@ -40,13 +46,13 @@ clocks_from (y ∷ ys) least (suc i) q h =
     let k = clocks_from ys (suc y.clk) i f.rest (omega arith) in
     omega arith
 
-clocks_rise : (es : List Entry) (least i j : ℕ) → in_order least es ≡ true → i < j → j < length es → (get_or es i no_entry).clk < (get_or es j no_entry).clk
+pub clocks_rise : (es : List Entry) (least i j : ℕ) → in_order least es ≡ true → i < j → j < length es → (get_or es i no_entry).clk < (get_or es j no_entry).clk
 clocks_rise [] least i j q h k = absurd (omega arith)
 clocks_rise (y ∷ ys) least i zero q h k = absurd (omega arith)
 clocks_rise (y ∷ ys) least zero (suc j) q h k = clocks_from ys (suc y.clk) j (first_of least y ys q).rest (omega arith)
 clocks_rise (y ∷ ys) least (suc i) (suc j) q h k = clocks_rise ys (suc y.clk) i j (first_of least y ys q).rest (omega arith) (omega arith)
 
-counts_open : (es : List Entry) (least i : ℕ) → in_order least es ≡ true → i < length es → opens (get_or es i no_entry) ≡ true
+pub counts_open : (es : List Entry) (least i : ℕ) → in_order least es ≡ true → i < length es → opens (get_or es i no_entry) ≡ true
 counts_open [] least i q h = absurd (omega arith)
 counts_open (y ∷ ys) least zero q h = (first_of least y ys q).counts
 counts_open (y ∷ ys) least (suc i) q h = counts_open ys (suc y.clk) i (first_of least y ys q).rest (omega arith)
@@ -67,7 +73,7 @@ same_entry (z ∷ zs) least x y q h k e =
     k)
     h
 
-order_by : (es : List Entry) (least : ℕ) → ((i : ℕ) → i < length es → least ≤ (get_or es i no_entry).clk)
+pub order_by : (es : List Entry) (least : ℕ) → ((i : ℕ) → i < length es → least ≤ (get_or es i no_entry).clk)
     → ((i j : ℕ) → i < j → j < length es → (get_or es i no_entry).clk < (get_or es j no_entry).clk) → ((i : ℕ) → i < length es → opens (get_or es i no_entry) ≡ true)
     → in_order least es ≡ true
 order_by [] least f r o = order_nil least
@@ -81,6 +87,36 @@ order_by (e ∷ es) least f r o =
           (λ i j h k. r (suc i) (suc j) (omega arith) (omega arith))
           (λ i h. o (suc i) (omega arith));
     })
+
+-- what the library says of neighbours and of each entry
+climbs : (es : List Entry) → AllAdjacentBelow (λ (x y : Entry). true ≡ ltb x.clk y.clk) es (length es) → (i n : ℕ) → i + suc n < length es
+    → (get_or es i no_entry).clk < (get_or es (i + suc n) no_entry).clk
+climbs es up i zero h =
+    let e : i + 1 ≡ i + suc zero = omega arith in
+    let z : (get_or es i no_entry).clk < (get_or es (i + 1) no_entry).clk = ltb-true _ _ (sym (up i no_entry (omega arith))) in
+    rw e at z
+climbs es up i (suc n) h =
+    let e : i + suc n + 1 ≡ i + suc (suc n) = omega arith in
+    let y = climbs es up i n (omega arith) in
+    let z : (get_or es (i + suc n) no_entry).clk < (get_or es (i + suc n + 1) no_entry).clk = ltb-true _ _ (sym (up (i + suc n) no_entry (omega arith))) in
+    let x : (get_or es (i + suc n) no_entry).clk < (get_or es (i + suc (suc n)) no_entry).clk = rw e at z in
+    omega arith
+
+pub sound_told : (es : List Entry) (b : Bool) → AllAdjacentBelow (λ (x y : Entry). true ≡ ltb x.clk y.clk) es (length es) → (IsTrue b ↔ All (λ (e : Entry). opens e ≡ true) es) → b ≡ in_order 0 es
+sound_told es true up each =
+    sym (order_by es 0 (λ i h. omega arith)
+    (λ i j h k.
+    let e : i + suc (j - suc i) ≡ j = omega arith in
+    let z = climbs es up i (j - suc i) (omega arith) in
+    rw e at z)
+    (λ i h. each.0 refl i no_entry h))
+sound_told es false up each =
+    sym (false_from_ne_true (in_order 0 es) (λ q. true≢false (sym (each.1 (λ i d h. rw (get_or_default es i d no_entry h) (counts_open es 0 i q h))))))
+
+pub unsound_told : (es : List Entry) → ((k : ℕ) × (k + 1 < length es) × ((d : Entry) → false ≡ ltb (get_or es k d).clk (get_or es (k + 1) d).clk)) → false ≡ in_order 0 es
+unsound_told es low =
+    let h = low.1 in
+    sym (false_from_ne_true (in_order 0 es) (λ q. true≢false (sym (lt-ltb _ _ (clocks_rise es 0 low.0 (low.0 + 1) q (omega arith) h)) ∙ sym (low.2 no_entry))))
 
 module _ (a : Ace) (l : length a.entries ≡ 32) where
   shown : (i : ℕ) → i < a.len → get_or (used a) i no_entry ≡ entry_at a i

@@ -7,7 +7,7 @@ use mathlib.Core.Logic.{◌⊎◌, inl, inr}
 use Prim.Native.Nat.{ℕ, ◌≤◌}
 use native.Mathlib.Omega.{arith}
 use lib.Dec.{ltb, eqb}
-use lib.ListN.{length, take}
+use lib.ListN.{length, set, take}
 use borrow.Author.Tests.{lt-ltb, le-ltb}
 use Rattle.refusal.specs.Told.{Told, accepted, refused, or_else}
 use Rattle.trace.specs.Counts.{most_wires, wires, of_counts}
@@ -16,8 +16,9 @@ use Rattle.runs.specs.declared.Entry.{Entry}
 use Rattle.runs.specs.declared.Ace.{Ace}
 use Rattle.runs.specs.Entries.{total, rows_before, has_clock, insert}
 use Rattle.runs.specs.Calls.{most_runs, used, sound_list, total_answer, first_row_answer, add_answer, with_used, added_to, list_after}
-use Rattle.runs.specs.Inside.{place_of, is_at, replaced, opened_at}
-use Rattle.runs.proofs.Calls.{sound_of, at_has, total-before, replaced_is, opened_is}
+use Rattle.runs.specs.Inside.{place_of, opened_at}
+use Rattle.runs.proofs.Calls.{sound_of, total-before, replaced_is, opened_is}
+use Rattle.runs.proofs.Scans.{list_of}
 
 -- a choice that is known
 chosen : (b : Bool) (t u : Told) → b ≡ true → cond b t u ≡ t
@@ -57,24 +58,17 @@ module _ (a : Ace) where
     unfolding first_row_answer
     row-asked q = chosen (sound_list a) asked (refused 13 0) q
 
-    has-is : (at : ℕ) (b : Bool) → b ≡ is_at a at clock → at ≡ place_of clock (used a) → length a.entries ≡ 32 → sound_list a ≡ true → has_clock clock (used a) ≡ b
-    has-is at b e p l q = sym (e ∙ ap (λ (k : ℕ). is_at a k clock) p ∙ at_has a clock l (sound_of a q))
-
     pub row_unknown : sound_list a ≡ true → has_clock clock (used a) ≡ false → refused 26 0 ≡ first_row_answer a clock
     row_unknown q h = sym (row-asked q ∙ other (has_clock clock (used a)) (accepted (rows_before clock (used a) ∷ [])) (refused 26 0) h)
 
     pub row_known : sound_list a ≡ true → has_clock clock (used a) ≡ true → accepted (rows_before clock (used a) ∷ []) ≡ first_row_answer a clock
     row_known q h = sym (row-asked q ∙ chosen (has_clock clock (used a)) (accepted (rows_before clock (used a) ∷ [])) (refused 26 0) h)
 
-    pub row_missing : (at : ℕ) (b : Bool) → b ≡ is_at a at clock → at ≡ place_of clock (used a) → length a.entries ≡ 32 → sound_list a ≡ true → b ≡ false
-        → refused 26 0 ≡ first_row_answer a clock
-    row_missing at b e p l q n = row_unknown q (has-is at b e p l q ∙ n)
-
-    pub row_given : (at : ℕ) (b : Bool) (rows : ℕ) → b ≡ is_at a at clock → at ≡ place_of clock (used a) → rows ≡ total (take at a.entries) → length a.entries ≡ 32
-        → sound_list a ≡ true → b ≡ true → accepted (rows ∷ []) ≡ first_row_answer a clock
-    row_given at b rows e p t l q y =
+    pub row_given : (at rows : ℕ) → has_clock clock (used a) ≡ true → at ≡ place_of clock (used a) → rows ≡ total (take at a.entries) → length a.entries ≡ 32
+        → sound_list a ≡ true → accepted (rows ∷ []) ≡ first_row_answer a clock
+    row_given at rows y p t l q =
         ap (λ (n : ℕ). accepted (n ∷ [])) (t ∙ ap (λ (k : ℕ). total (take k a.entries)) p ∙ total-before a clock l (sound_of a q))
-        ∙ row_known q (has-is at b e p l q ∙ y)
+        ∙ row_known q y
 
   -- a run added
   module _ (e : Entry) where
@@ -115,27 +109,24 @@ module _ (a : Ace) where
     list-grows : accepted [] ≡ add_answer a e → with_used a (insert e (used a)) ≡ list_after a e
     list-grows q = ap (λ (t : Told). added_to t a e) q
 
-    module _ (at : ℕ) (b : Bool) (i : b ≡ is_at a at e.clk) (p : at ≡ place_of e.clk (used a)) (l : length a.entries ≡ 32) (q : sound_list a ≡ true) (r : accepted [] ≡ counted) where
-      at_place : (v : Bool) → b ≡ v → is_at a (place_of e.clk (used a)) e.clk ≡ v
-      at_place v y = sym (i ∙ ap (λ (k : ℕ). is_at a k e.clk) p) ∙ y
+    module _ (at : ℕ) (p : at ≡ place_of e.clk (used a)) (l : length a.entries ≡ 32) (q : sound_list a ≡ true) (r : accepted [] ≡ counted) where
+      pub taken_replaced : has_clock e.clk (used a) ≡ true → accepted [] ≡ add_answer a e
+      taken_replaced y = add_taken q r (inr y)
 
-      pub taken_replaced : b ≡ true → accepted [] ≡ add_answer a e
-      taken_replaced y = add_taken q r (inr (sym (at_has a e.clk l (sound_of a q)) ∙ at_place true y))
-
-      pub list-replaced : b ≡ true → replaced a at e ≡ list_after a e
+      pub list-replaced : has_clock e.clk (used a) ≡ true → list_of (set a.entries at e) a.len ≡ list_after a e
       list-replaced y =
-          ap (λ (k : ℕ). replaced a k e) p
-          ∙ replaced_is a e l (sound_of a q) (at_place true y)
+          ap (λ (k : ℕ). list_of (set a.entries k e) a.len) p
+          ∙ replaced_is a e l (sound_of a q) y
           ∙ list-grows (taken_replaced y)
 
-      pub full_refused : b ≡ false → a.len ≡ most_runs → refused 25 0 ≡ add_answer a e
-      full_refused y h = add_full q r (sym (at_has a e.clk l (sound_of a q)) ∙ at_place false y) (omega arith)
+      pub full_refused : has_clock e.clk (used a) ≡ false → a.len ≡ most_runs → refused 25 0 ≡ add_answer a e
+      full_refused y h = add_full q r y (omega arith)
 
       pub taken_opened : (a.len ≡ most_runs → ⊥) → accepted [] ≡ add_answer a e
       taken_opened n = let h = (sound_of a q).few in add_taken q r (inl (lt-ltb a.len most_runs (omega arith)))
 
-      pub list-opened : b ≡ false → (a.len ≡ most_runs → ⊥) → opened_at a at e ≡ list_after a e
+      pub list-opened : has_clock e.clk (used a) ≡ false → (a.len ≡ most_runs → ⊥) → opened_at a at e ≡ list_after a e
       list-opened y n =
           ap (λ (k : ℕ). opened_at a k e) p
-          ∙ opened_is a e l (sound_of a q) (at_place false y)
+          ∙ opened_is a e l (sound_of a q) y
           ∙ list-grows (taken_opened n)

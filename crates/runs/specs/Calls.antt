@@ -1,15 +1,13 @@
 -- The run list's calls: for every list and every argument the answer, and the whole list after it.
 -- Assumes nothing.
-use Rattle.std.specs.Prelude.{ℕ, Bool, cond, ◌&&◌, ◌||◌, List, [], ◌∷◌, ◌++◌, ltb, leb, length, take, drop}
+use Rattle.std.specs.Prelude.{Result, ℕ, Bool, cond, ◌&&◌, ◌||◌, List, [], ◌∷◌, ◌++◌, ltb, leb, length, take, drop}
 use Rattle.refusal.specs.Told.{Told, accepted, refused}
+use Rattle.refusal.specs.Refusal.{told, number_alone, nothing}
+use Rattle.refusal.specs.declared.Refusal.{Refusal}
 use Rattle.trace.specs.Counts.{most_wires, of_counts}
 use Rattle.trace.specs.State.{in_turn}
 use Rattle.runs.specs.declared.Entry.{Entry}
 use Rattle.runs.specs.declared.Ace.{Ace}
-use Rattle.runs.specs.declared.RowsAnswer.{RowsAnswer}
-use Rattle.runs.specs.declared.RowsAnswer.TheVariants as rows
-use Rattle.runs.specs.declared.AddAnswer.{AddAnswer}
-use Rattle.runs.specs.declared.AddAnswer.TheVariants as add
 use Rattle.runs.specs.Entries.{in_order, total, rows_before, has_clock, insert}
 
 -- "at most 32 entries"
@@ -25,13 +23,11 @@ unfoldable pub sound_list : Ace → Bool
 sound_list a = leb a.len most_runs && in_order 0 (used a)
 
 -- each case of an answer, by number, place and values
-abbrev pub rows_told : RowsAnswer → Told
-rows_told (rows.Rows n) = accepted (n ∷ [])
-rows_told (rows.Refused number place) = refused number place
+abbrev pub rows_told : Result ℕ Refusal → Told
+rows_told = told number_alone
 
-abbrev pub add_told : AddAnswer → Told
-add_told add.Added = accepted []
-add_told (add.Refused number place) = refused number place
+abbrev pub add_told : Result Unit Refusal → Told
+add_told = told nothing
 
 -- "every call refuses 13 first"
 unfoldable pub total_answer : Ace → Told

@@ -1,6 +1,7 @@
 -- What the private functions promise each other. No public contract cites this file.
 -- Assumes nothing.
-use Rattle.std.specs.Prelude.{ℕ, suc, ◌+◌, Bool, cond, ◌&&◌, List, [], ◌∷◌, ◌++◌, ltb, eqb, get_or, set, take, drop}
+use Rattle.std.specs.Prelude.{ℕ, suc, ◌+◌, cond, List, [], ◌∷◌, ◌++◌, ltb, take, drop, Result, Ok, Err}
+use Rattle.runs.specs.Entries.{has_clock}
 use Rattle.runs.specs.declared.Entry.{Entry}
 use Rattle.runs.specs.declared.Ace.{Ace}
 
@@ -12,11 +13,9 @@ place_of clock (e ∷ es) = cond (ltb e.clk clock) (suc (place_of clock es)) 0
 abbrev pub no_entry : Entry
 no_entry = record { clk = 0; num_read = 0; num_eval = 0 }
 
-abbrev pub is_at : Ace → ℕ → ℕ → Bool
-is_at a at clock = ltb at a.len && eqb (get_or a.entries at no_entry).clk clock
-
-abbrev pub replaced : Ace → ℕ → Entry → Ace
-replaced a at e = record { entries = set a.entries at e; len = a.len }
+-- the place of a clock that is there, or the one that it would have
+abbrev pub place_answer : ℕ → List Entry → Result ℕ ℕ
+place_answer clock es = cond (has_clock clock es) (Ok (place_of clock es)) (Err (place_of clock es))
 
 -- an entry put before the one at a place
 abbrev pub opened : List Entry → ℕ → Entry → List Entry

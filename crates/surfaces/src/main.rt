@@ -4,81 +4,76 @@
 #![tactic(auto)]
 
 mod calls;
-mod cells;
-mod runs;
-mod same;
-mod say;
+mod steps;
 
-use crate::calls::Surface;
+use crate::calls::{CALLS, Call, NO_STATE};
+use crate::steps::{ByValue, InPlace, Lent, Surface};
+use in_place::Stepped;
 use std::io;
+use telling::answers::{Answer, State};
+use telling::buffers::{CANARY, COUNT_CANARY};
+use telling::lists::{Cells, Numbers};
 use trace::CircuitEvaluation;
 
-// What the listing's six wires and five nodes need, and cells past them.
-const VALUES: usize = 14;
+const UNTOUCHED: Lent = Lent {
+    values: [CANARY; 14],
+    counts: [COUNT_CANARY; 8],
+    nodes: [CANARY; 53],
+};
 
-const COUNTS: usize = 8;
-
-const NODES: usize = 53;
-
-fn buffers(rt: &impl Print, values: &[u64], counts: &[u32], nodes: &[u64]) -> io::Result<()> {
-    cells::tell(rt, b"values", values)?;
-    say::end(rt)?;
-    cells::tell_counts(rt, b"counts", counts)?;
-    say::end(rt)?;
-    cells::tell(rt, b"nodes", nodes)?;
-    say::end(rt)
+fn tell<S: Surface>(rt: &impl Print, call: &str, step: Stepped) -> io::Result<CircuitEvaluation> {
+    println!(rt;
+        "{}: {call} = {},{}",
+        S::NAME,
+        Answer(step.told.map(|()| Numbers([]))),
+        State(step.state)
+    )?;
+    Ok(step.state)
 }
 
-fn run(
-    rt: &impl Print,
-    surface: Surface,
-    values: &mut [u64],
-    counts: &mut [u32],
-    nodes: &mut [u64],
-) -> io::Result<CircuitEvaluation> {
-    let mut state = runs::no_state();
-    let mut i: usize = 0;
-    while i < runs::CALLS {
-        state = runs::call(rt, i, surface, state, values, counts, nodes)?;
-        i += 1;
+fn output<S: Surface>(rt: &impl Print, state: CircuitEvaluation, lent: &Lent) -> io::Result<()> {
+    let id_next = S::output_value(state, lent).map(|header| Numbers([header.id_next]));
+    println!(rt;
+        "{}: output_value = {},{}",
+        S::NAME,
+        Answer(id_next),
+        State(state)
+    )
+}
+
+fn run<S: Surface>(rt: &impl Print, lent: &mut Lent) -> io::Result<CircuitEvaluation> {
+    let mut state = NO_STATE;
+    for &call in CALLS {
+        match call {
+            Call::New(num_read, num_eval) => {
+                state = tell::<S>(rt, "new", S::new(state, num_read, num_eval, lent))?;
+            }
+            Call::DoRead(word) => {
+                state = tell::<S>(rt, "do_read", S::do_read(state, 0, word, lent))?;
+            }
+            Call::DoEval(ptr, instruction) => {
+                state = tell::<S>(rt, "do_eval", S::do_eval(state, ptr, instruction, lent))?;
+            }
+            Call::OutputValue => output::<S>(rt, state, lent)?,
+        }
     }
+    println!(rt; "values{}", Cells(&lent.values))?;
+    println!(rt; "counts{}", Cells(&lent.counts))?;
+    println!(rt; "nodes{}", Cells(&lent.nodes))?;
     Ok(state)
 }
 
-// The calls in place, over buffers of their own, beside what the calls by value came to.
-fn compare(
-    rt: &impl Print,
-    state: CircuitEvaluation,
-    values: &[u64],
-    counts: &[u32],
-    nodes: &[u64],
-) -> io::Result<()> {
-    let mut values_in_place = [cells::CANARY; VALUES];
-    let mut counts_in_place = [cells::COUNT_CANARY; COUNTS];
-    let mut nodes_in_place = [cells::CANARY; NODES];
-    let state_in_place = run(
-        rt,
-        Surface::InPlace,
-        &mut values_in_place,
-        &mut counts_in_place,
-        &mut nodes_in_place,
-    )?;
-    buffers(rt, &values_in_place, &counts_in_place, &nodes_in_place)?;
-    same::tell(rt, b"state", same::is_same_state(state, state_in_place))?;
-    same::tell(rt, b"values", same::is_same(values, &values_in_place))?;
-    same::tell(
-        rt,
-        b"counts",
-        same::is_same_counts(counts, &counts_in_place),
-    )?;
-    same::tell(rt, b"nodes", same::is_same(nodes, &nodes_in_place))
+fn compare(rt: &impl Print, what: &str, is_same: bool) -> io::Result<()> {
+    println!(rt; "{what} {}", if is_same { "same" } else { "differ" })
 }
 
 fn main(rt: HostRuntime) -> io::Result<()> {
-    let mut values = [cells::CANARY; VALUES];
-    let mut counts = [cells::COUNT_CANARY; COUNTS];
-    let mut nodes = [cells::CANARY; NODES];
-    let state = run(&rt, Surface::ByValue, &mut values, &mut counts, &mut nodes)?;
-    buffers(&rt, &values, &counts, &nodes)?;
-    compare(&rt, state, &values, &counts, &nodes)
+    let mut by_value = UNTOUCHED;
+    let mut in_place = UNTOUCHED;
+    let state = run::<ByValue>(&rt, &mut by_value)?;
+    let state_in_place = run::<InPlace>(&rt, &mut in_place)?;
+    compare(&rt, "state", state == state_in_place)?;
+    compare(&rt, "values", by_value.values == in_place.values)?;
+    compare(&rt, "counts", by_value.counts == in_place.counts)?;
+    compare(&rt, "nodes", by_value.nodes == in_place.nodes)
 }

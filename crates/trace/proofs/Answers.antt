@@ -2,10 +2,9 @@
 -- Assumes nothing.
 use Rattle.std.proofs.Common.{◌≡◌, ℕ, List, Result, Ok, Err, refl, sym, ap, ap₂, get_or}
 use Rattle.refusal.specs.Told.{accepted}
-use Rattle.refusal.specs.Refusal.{nothing}
 use Rattle.refusal.specs.declared.Refusal.{Refusal}
 use Rattle.refusal.proofs.Tellings.{clash, same_values, same_refusal}
-use Rattle.refusal.proofs.Known.{told_determined}
+use Rattle.refusal.proofs.Known.{told_determined, nothing_determined}
 use Rattle.refusal.proofs.Known as refusals
 use Rattle.trace.specs.declared.CircuitEvaluation.{CircuitEvaluation}
 use Rattle.trace.specs.declared.RecordHeader.{RecordHeader}
@@ -55,7 +54,7 @@ pub header_determined : (r s : Result RecordHeader Refusal) → header_told r �
 header_determined = told_determined header_numbers same_header
 
 pub tested_determined : (r s : Result Unit Refusal) → tested_told r ≡ tested_told s → r ≡ s
-tested_determined = told_determined nothing (λ v w e. refl)
+tested_determined = nothing_determined
 
 same_refused : (d e : RefusedStep) → d.state ≡ e.state → d.refusal ≡ e.refusal → d ≡ e
 same_refused d e = ap₂ (λ (s : CircuitEvaluation) (r : Refusal). record { state = s; refusal = r })

@@ -1,6 +1,4 @@
-pub mod Digits
-pub mod Places
-pub mod Pieces
+pub mod Number
+pub mod Words
 pub mod Turns
-pub mod Put
 pub mod Worked

@@ -3,11 +3,12 @@
 use Prim.Native.Nat.{ℕ}
 use mathlib.Core.Path.{◌≡◌, refl}
 use mathlib.Core.List.{List, [], ◌∷◌}
+use Rattle.std.proofs.Common.{Ok, Err}
 use Rattle.numbers.specs.Form.{bytes_in, bytes_of, groups_in, width_of}
 use Rattle.record.specs.Bytes.{bytes_of_all}
 use Rattle.words.specs.Text.{parting, pieces, filled, words_of, digit, digits, value_after, numbers_of}
 use Rattle.words.specs.Answer.{answer_from, encode_answer, encoded}
-use Rattle.words.specs.declared.EncodeAnswer.TheVariants.{Bytes, NotANumber, TooLarge, NoRoom}
+use Rattle.words.specs.declared.EncodeError.TheVariants.{NotANumber, TooLarge, NoRoom}
 
 abbrev pub two : List ℕ
 two = 55 ∷ 32 ∷ 49 ∷ 50 ∷ 56 ∷ 10 ∷ []
@@ -27,7 +28,7 @@ one_more = 49 ∷ 56 ∷ 52 ∷ 52 ∷ 54 ∷ 55 ∷ 52 ∷ 52 ∷ 48 ∷ 55 ∷
 abbrev pub room : List ℕ
 room = 9 ∷ 9 ∷ 9 ∷ 9 ∷ []
 
-pub two_words : encode_answer two room ≡ Bytes 3
+pub two_words : encode_answer two room ≡ Ok 3
 unfolding parting pieces filled words_of digit digits value_after answer_from groups_in width_of
 two_words = refl
 
@@ -39,18 +40,18 @@ pub leading_zeros : encoded zeros room ≡ 7 ∷ 9 ∷ 9 ∷ 9 ∷ []
 unfolding parting pieces filled words_of digit digits value_after numbers_of answer_from groups_in width_of bytes_in bytes_of bytes_of_all
 leading_zeros = refl
 
-pub no_number : encode_answer letter room ≡ NotANumber 2
+pub no_number : encode_answer letter room ≡ Err (NotANumber 2)
 unfolding parting pieces filled words_of digit digits value_after answer_from groups_in width_of
 no_number = refl
 
-pub largest_word : encode_answer largest room ≡ NoRoom 1
+pub largest_word : encode_answer largest room ≡ Err (NoRoom 1)
 unfolding parting pieces filled words_of digit digits value_after answer_from groups_in width_of
 largest_word = refl
 
-pub too_large : encode_answer one_more room ≡ TooLarge 1
+pub too_large : encode_answer one_more room ≡ Err (TooLarge 1)
 unfolding parting pieces filled words_of digit digits value_after answer_from groups_in width_of
 too_large = refl
 
-pub spaces : encode_answer (32 ∷ 10 ∷ []) room ≡ Bytes 0
+pub spaces : encode_answer (32 ∷ 10 ∷ []) room ≡ Ok 0
 unfolding parting pieces filled words_of answer_from
 spaces = refl

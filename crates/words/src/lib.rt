@@ -2,7 +2,7 @@
 // them.
 #![tactic(auto)]
 
-mod next;
+mod word;
 
 ghost use Rattle.std.specs.Prelude.{◌≡◌, length};
 ghost use Rattle.std.proofs.lemmas.List.Edits.{sets};
@@ -11,55 +11,58 @@ ghost use Rattle.words.specs.Text.{words_of, numbers_of};
 ghost use Rattle.words.specs.Answer.{answer_from, encode_answer, encoded};
 ghost use Rattle.words.specs.Inside.{Fits};
 
-use crate::next::{Word, next_word};
-use numbers::{WriteAnswer, width, write};
+use crate::word::{is_parting, number_of};
+use numbers::{width, write};
+use std::error::Error;
+use std::fmt;
 
-// How many bytes were written; or the number, from 1, of the first word that is no decimal number,
-// or is 2^64 or more, or whose bytes find no room.
-#[derive(Clone, Copy)]
-pub enum EncodeAnswer {
-    Bytes(usize),
+// The number, from 1, of the first word that is no decimal number, or is 2^64 or more, or whose
+// bytes find no room.
+#[derive(Clone, Copy, Debug, PartialEq, Eq)]
+pub enum EncodeError {
     NotANumber(usize),
     TooLarge(usize),
     NoRoom(usize),
 }
 
-// Writes the bytes of the words' numbers from out's start on, or refuses and writes nothing.
-pub fn encode(text: &[u8], out: &mut [u8]) -> EncodeAnswer
+impl fmt::Display for EncodeError {
+    fn fmt<W: fmt::Write>(&self, f: &mut fmt::Formatter<W>) -> fmt::Result {
+        match self {
+            EncodeError::NotANumber(word) => write!(f, "word {word} is no decimal number"),
+            EncodeError::TooLarge(word) => write!(f, "word {word} is 2^64 or more"),
+            EncodeError::NoRoom(word) => write!(f, "word {word} finds no room"),
+        }
+    }
+}
+
+impl Error for EncodeError {}
+
+// Writes the bytes of the words' numbers from out's start on, and says how many they are; or refuses
+// and writes nothing.
+pub fn encode(text: &[u8], out: &mut [u8]) -> Result<usize, EncodeError>
     ensures value { result ≡ encode_answer text.now out.old }
     ensures out_after { out.new ≡ encoded text.now out.old }
 {
-    let answer = measure(text, out.len());
-    if let EncodeAnswer::Bytes(_) = answer {
-        put_words(text, out);
-    }
-    answer
+    let bytes = measure(text, out.len())?;
+    put_words(text, out);
+    Ok(bytes)
 }
 
 // What `encode` answers, with no byte written.
-fn measure(text: &[u8], room: usize) -> EncodeAnswer
+fn measure(text: &[u8], room: usize) -> Result<usize, EncodeError>
     ensures { result ≡ answer_from room 1 0 (words_of text.now) }
 {
-    let mut from: usize = 0;
-    let mut word: usize = 1;
-    let mut at: usize = 0;
-    loop {
-        let found = next_word(text, from);
-        match found {
-            Word::Number(v, next) => {
-                let bytes = width(v);
-                if room - at < bytes {
-                    return EncodeAnswer::NoRoom(word);
-                }
-                at = at + bytes;
-                from = next;
-            }
-            Word::NotDigits => return EncodeAnswer::NotANumber(word),
-            Word::Large => return EncodeAnswer::TooLarge(word),
-            Word::Nothing => return EncodeAnswer::Bytes(at),
+    let words = text.split(is_parting).filter(|word| !word.is_empty());
+    let mut at = 0;
+    for (i, word) in words.enumerate() {
+        let place = i + 1;
+        let bytes = width(number_of(word, place)?);
+        if room - at < bytes {
+            return Err(EncodeError::NoRoom(place));
         }
-        word += 1;
+        at += bytes;
     }
+    Ok(at)
 }
 
 // Every word is a number, and there is room for all.
@@ -67,22 +70,10 @@ fn put_words(text: &[u8], out: &mut [u8])
     requires { Fits (length out.old) 1 0 (words_of text.now) }
     ensures { out.new ≡ sets out.old 0 (bytes_of_all (numbers_of (words_of text.now))) }
 {
-    let mut from: usize = 0;
-    let mut at: usize = 0;
-    loop {
-        let found = next_word(text, from);
-        match found {
-            Word::Number(v, next) => {
-                let written = write(v, out, at);
-                let WriteAnswer::Next(after) = written else {
-                    return;
-                };
-                from = next;
-                at = after;
-            }
-            Word::NotDigits => return,
-            Word::Large => return,
-            Word::Nothing => return,
-        }
+    let words = text.split(is_parting).filter(|word| !word.is_empty());
+    let mut at = 0;
+    for (i, word) in words.enumerate() {
+        let number = number_of(word, i + 1).unwrap();
+        at = write(number, out, at).unwrap();
     }
 }

@@ -6,10 +6,10 @@ use Rattle.encode.proofs.encode.Goals as goal
 
 pub slice_bounds-write_all-end : goal.slice_bounds-write_all-end
 slice_bounds-write_all-end g c =
-    let h = bytes-within (length c.args.bytes.now) (words_of c.args.text.now) 1 0 _ (search rules) (sym c.in-Bytes.ensures.value) in
+    let h = bytes-within (length c.args.bytes.now) (words_of c.args.text.now) 1 0 _ (search rules) (sym c.in-Ok.ensures.value) in
     search rules
 
-pub slice_bounds-write_all-end-in-Bytes : goal.slice_bounds-write_all-end-in-Bytes
-slice_bounds-write_all-end-in-Bytes g c =
-    let h = bytes-within (length c.args.bytes.now) (words_of c.args.text.now) 1 0 _ (search rules) (sym c.in-Bytes.ensures.value) in
+pub slice_bounds-write_all-end-in-Ok : goal.slice_bounds-write_all-end-in-Ok
+slice_bounds-write_all-end-in-Ok g c =
+    let h = bytes-within (length c.args.bytes.now) (words_of c.args.text.now) 1 0 _ (search rules) (sym c.in-Ok.ensures.value) in
     search rules

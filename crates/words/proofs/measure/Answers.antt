@@ -1,67 +1,49 @@
--- `words::measure` meets its contract.
+-- `measure` meets its contract.
 -- Assumes nothing.
-use mathlib.Core.Path.{◌≡◌, refl, sym, ◌∙◌}
+use mathlib.Core.Path.{◌≡◌, refl, ◌∙◌}
 use native.Mathlib.Omega.{arith}
+use Rattle.std.specs.Prelude.{Err}
+use Rattle.std.proofs.lemmas.List.{length_push}
 use borrow.Author.Rules.{rules}
-use Rattle.words.specs.Inside.{word_from}
-use Rattle.words.specs.declared.next.Word.TheVariants.{Number}
-use Rattle.words.proofs.Turns.{found, measure_none, measure_not, measure_large, measure_no_room, measure_next}
+use Rattle.std.proofs.iter.Serving.{serving}
+use Rattle.words.proofs.Words.{each, turn, ended}
+use Rattle.words.proofs.Turns.{left_refused, left_no_room, left_next, left_none}
 use Rattle.words.proofs.measure.Goals as goal
 
-pub loop-v-init : goal.loop-v-init
-loop-v-init c = (search rules, search rules, search rules, refl)
+pub loop-i-init : goal.loop-i-init
+loop-i-init c =
+    record {
+      can = grind serving;
+      finite = grind serving;
+      each = each _ _ c.args.text.now (search rules) (search rules) (search rules) (search rules) (λ x b q k. search rules) (search rules) (λ x b q k. search rules);
+      within = search rules;
+      left = refl;
+    }
+
+pub returns-in_err-number_of : goal.returns-in_err-number_of
+returns-in_err-number_of c =
+    let t = turn c.args.text.now _ c.loop-i.invariant.each c.loop-i.yielded_by _ c.in-Some.is c.next.ensures.steps in
+    let q : c.from_residual.result ≡ Err c.in_err-number_of.field-0.0 = search rules in
+    q ∙ left_refused t c.args.room c.loop-i.at c.loop-i.invariant.left c.in_err-number_of.field-0.0 (search rules)
 
 pub returns-then-room-at : goal.returns-then-room-at
 returns-then-room-at c =
-    let l = c.loop-v in
-    let s = c in
-    let n = c.in-Number in
-    let e : Number n.v n.next ≡ word_from s.args.text.now l.from = sym n.is ∙ c.next_word-found.ensures in
-    measure_no_room s.args.room l.word l.at s.args.text.now l.from n.v n.next e (omega arith) ∙ l.invariant.3
+    let t = turn c.args.text.now _ c.loop-i.invariant.each c.loop-i.yielded_by _ c.in-Some.is c.next.ensures.steps in
+    left_no_room t c.args.room c.loop-i.at c.loop-i.invariant.left c.in_ok-number_of.field-0 (search rules) (omega (arith, c.width-bytes.ensures))
 
-pub returns-in-NotDigits : goal.returns-in-NotDigits
-returns-in-NotDigits c =
-    let l = c.loop-v in
-    let s = c in
-    measure_not s.args.room l.word l.at s.args.text.now l.from (sym c.in-NotDigits.is ∙ c.next_word-found.ensures) ∙ l.invariant.3
+pub loop-i-preserved : goal.loop-i-preserved
+loop-i-preserved c =
+    let t = turn c.args.text.now _ c.loop-i.invariant.each c.loop-i.yielded_by _ c.in-Some.is c.next.ensures.steps in
+    let i = c.loop-i.invariant in
+    record {
+      can = grind serving;
+      finite = grind serving;
+      each = i.each;
+      within = search rules;
+      left = rw c.width-bytes.ensures (left_next t c.args.room c.loop-i.at i.left c.in_ok-number_of.field-0 _ (search rules) (omega (arith, c.width-bytes.ensures)) (length_push c.loop-i.yielded _));
+    }
 
-pub returns-in-Large : goal.returns-in-Large
-returns-in-Large c =
-    let l = c.loop-v in
-    let s = c in
-    measure_large s.args.room l.word l.at s.args.text.now l.from (sym c.in-Large.is ∙ c.next_word-found.ensures) ∙ l.invariant.3
-
-pub returns-in-Nothing : goal.returns-in-Nothing
-returns-in-Nothing c =
-    let l = c.loop-v in
-    let s = c in
-    measure_none s.args.room l.word l.at s.args.text.now l.from (sym c.in-Nothing.is ∙ c.next_word-found.ensures) ∙ l.invariant.3
-
-pub overflow_add-word : goal.overflow_add-word
-overflow_add-word c =
-    let l = c.loop-v in
-    let s = c in
-    let n = c.in-Number in
-    let e : Number n.v n.next ≡ word_from s.args.text.now l.from = sym n.is ∙ c.next_word-found.ensures in
-    let f = found s.args.text.now l.from n.v n.next e in omega (arith, f.further, f.within)
-
-pub loop-v-smaller : goal.loop-v-smaller
-loop-v-smaller c =
-    let l = c.loop-v in
-    let s = c in
-    let n = c.in-Number in
-    let e : Number n.v n.next ≡ word_from s.args.text.now l.from = sym n.is ∙ c.next_word-found.ensures in
-    let f = found s.args.text.now l.from n.v n.next e in omega (arith, f.further, f.within)
-
-pub loop-v-preserved : goal.loop-v-preserved
-loop-v-preserved c =
-    let l = c.loop-v in
-    let s = c in
-    let n = c.in-Number in
-    let e : Number n.v n.next ≡ word_from s.args.text.now l.from = sym n.is ∙ c.next_word-found.ensures in
-    let f = found s.args.text.now l.from n.v n.next e in (
-      f.within,
-      omega (arith, f.further),
-      omega arith,
-      measure_next s.args.room l.word l.at s.args.text.now l.from n.v n.next _ _ e (omega arith) (omega arith) (omega arith) ∙ l.invariant.3,
-    )
+pub returns : goal.returns
+returns c =
+    let h = ended c.args.text.now _ c.loop-i.invariant.each c.loop-i.yielded_by c.in-None.is c.next.ensures.steps in
+    left_none _ c.args.room c.loop-i.at c.loop-i.invariant.left h

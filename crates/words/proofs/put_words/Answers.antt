@@ -1,64 +1,62 @@
--- `words::put_words` meets its contract.
+-- `put_words` meets its contract.
 -- Assumes nothing.
-use mathlib.Core.Path.{◌≡◌, sym, ap, ◌∙◌}
-use native.Mathlib.Omega.{arith}
-use borrow.Author.Rules.{rules}
+use mathlib.Core.Path.{◌≡◌, refl, sym, ap, ◌∙◌}
+use Prim.Native.Nat.{◌+◌}
+use lib.ListN.{length}
+use lib.Seq.{length-sets}
+use Rattle.refusal.specs.Refusal.{number_alone}
+use Rattle.refusal.proofs.Passing.{told_is_ok}
+use Rattle.refusal.proofs.Tellings.{same_values}
 use Rattle.numbers.specs.Answer.{write_told}
-use Rattle.numbers.proofs.Writing.{room-written}
-use Rattle.record.proofs.Putting as putting
-use Rattle.words.specs.Inside.{word_from}
-use Rattle.words.specs.declared.next.Word.TheVariants.{Number}
-use Rattle.words.proofs.Turns.{found}
-use Rattle.words.proofs.Put.{put_start, put_not, put_large, put_done, put_room, put_next}
+use Rattle.numbers.specs.Form.{bytes_of, width_of}
+use Rattle.numbers.proofs.Writing.{room_answer, room-written}
+use Rattle.std.proofs.lemmas.List.{length_push}
+use Rattle.words.proofs.Turns.{put_number, put_room, put_fits, put_left, put_none}
+use borrow.Author.Rules.{rules}
+use Rattle.std.proofs.iter.Serving.{serving}
+use Rattle.words.proofs.Words.{each, turn, ended}
 use Rattle.words.proofs.put_words.Goals as goal
 
-pub loop-v-init : goal.loop-v-init
-loop-v-init c = (search rules, put_start _ _ c.requires)
+pub loop-i-init : goal.loop-i-init
+loop-i-init c =
+    record {
+      can = grind serving;
+      finite = grind serving;
+      each = each _ _ c.args.text.now (search rules) (search rules) (search rules) (search rules) (λ x b q k. search rules) (search rules) (λ x b q k. search rules);
+      fits = c.requires;
+      left = refl;
+    }
 
-pub returns-in_default : goal.returns-in_default
-returns-in_default c =
-    let l = c.loop-v in
-    let s = c in
-    let n = c.in-Number in
-    let w = c.write-written in
-    let e : Number n.v n.next ≡ word_from s.args.text.now l.from = sym n.is ∙ c.next_word-found.ensures in
-    absurd (putting.put_refused _ _ _ (put_room l.invariant.1 n.v n.next e) _ _ (ap write_told (sym c.in_default.is) ∙ w.ensures.result_value))
+pub unwrap-number-requires : goal.unwrap-number-requires
+unwrap-number-requires c =
+    let t = turn c.args.text.now _ c.loop-i.invariant.each c.loop-i.yielded_by _ c.in-Some.is c.next.ensures.steps in
+    put_number t c.loop-i.out c.loop-i.at c.loop-i.invariant.fits c.number_of.result c.number_of.ensures
 
-pub loop-v-smaller : goal.loop-v-smaller
-loop-v-smaller c =
-    let l = c.loop-v in
-    let s = c in
-    let n = c.in-Number in
-    let w = c.write-written in
-    let e : Number n.v n.next ≡ word_from s.args.text.now l.from = sym n.is ∙ c.next_word-found.ensures in
-    let f = found s.args.text.now l.from n.v n.next e in omega (arith, f.further, f.within)
+pub unwrap-at-requires : goal.unwrap-at-requires
+unwrap-at-requires c =
+    let t = turn c.args.text.now _ c.loop-i.invariant.each c.loop-i.yielded_by _ c.in-Some.is c.next.ensures.steps in
+    let q = sym c.unwrap-number.ensures ∙ c.number_of.ensures in
+    let h = put_room t c.loop-i.out c.loop-i.at c.loop-i.invariant.fits c.unwrap-number.result q in
+    told_is_ok number_alone _ _ (c.write.ensures.result_value ∙ room_answer c.unwrap-number.result c.loop-i.out c.loop-i.at h)
 
-pub loop-v-preserved : goal.loop-v-preserved
-loop-v-preserved c =
-    let l = c.loop-v in
-    let s = c in
-    let n = c.in-Number in
-    let w = c.write-written in
-    let e : Number n.v n.next ≡ word_from s.args.text.now l.from = sym n.is ∙ c.next_word-found.ensures in
-    let h = put_room l.invariant.1 n.v n.next e in (
-      (found s.args.text.now l.from n.v n.next e).within,
-      put_next l.invariant.1 n.v n.next e _ _ (w.ensures.out_after ∙ room-written _ _ _ h) (putting.put_next _ _ _ h _ (ap write_told (sym c.in-Next.is) ∙ w.ensures.result_value)),
-    )
+pub loop-i-preserved : goal.loop-i-preserved
+loop-i-preserved c =
+    let t = turn c.args.text.now _ c.loop-i.invariant.each c.loop-i.yielded_by _ c.in-Some.is c.next.ensures.steps in
+    let i = c.loop-i.invariant in
+    let q = sym c.unwrap-number.ensures ∙ c.number_of.ensures in
+    let h = put_room t c.loop-i.out c.loop-i.at i.fits c.unwrap-number.result q in
+    let place : c.unwrap-at.result ≡ c.loop-i.at + width_of c.unwrap-number.result = cc (same_values (ap write_told (sym c.unwrap-at.ensures) ∙ c.write.ensures.result_value ∙ room_answer c.unwrap-number.result c.loop-i.out c.loop-i.at h)) in
+    let bytes = c.write.ensures.out_after ∙ room-written c.unwrap-number.result c.loop-i.out c.loop-i.at h in
+    let size = ap length bytes ∙ length-sets c.loop-i.out c.loop-i.at (bytes_of c.unwrap-number.result) in
+    record {
+      can = grind serving;
+      finite = grind serving;
+      each = i.each;
+      fits = rw place (put_fits t c.loop-i.out c.loop-i.at i.fits c.unwrap-number.result q c.write.new.out _ size (length_push c.loop-i.yielded _));
+      left = rw (place, bytes) (put_left t c.loop-i.out c.loop-i.at i.fits c.unwrap-number.result q _ (length_push c.loop-i.yielded _) ∙ i.left);
+    }
 
-pub shape_of-out-in-NotDigits : goal.shape_of-out-in-NotDigits
-shape_of-out-in-NotDigits c = c.loop-v.invariant.1.same
-
-pub returns-in-NotDigits : goal.returns-in-NotDigits
-returns-in-NotDigits c = absurd (put_not c.loop-v.invariant.1 (sym c.in-NotDigits.is ∙ c.next_word-found.ensures))
-
-pub shape_of-out-in-Large : goal.shape_of-out-in-Large
-shape_of-out-in-Large c = c.loop-v.invariant.1.same
-
-pub returns-in-Large : goal.returns-in-Large
-returns-in-Large c = absurd (put_large c.loop-v.invariant.1 (sym c.in-Large.is ∙ c.next_word-found.ensures))
-
-pub shape_of-out-in-Nothing : goal.shape_of-out-in-Nothing
-shape_of-out-in-Nothing c = c.loop-v.invariant.1.same
-
-pub returns-in-Nothing : goal.returns-in-Nothing
-returns-in-Nothing c = put_done c.loop-v.invariant.1 (sym c.in-Nothing.is ∙ c.next_word-found.ensures)
+pub returns : goal.returns
+returns c =
+    let h = ended c.args.text.now _ c.loop-i.invariant.each c.loop-i.yielded_by c.in-None.is c.next.ensures.steps in
+    sym (put_none _ c.loop-i.out c.loop-i.at h) ∙ c.loop-i.invariant.left

@@ -2,7 +2,7 @@
 -- Assumes nothing.
 use mathlib.Core.Path.{refl}
 use borrow.Author.Rules.{rules}
-use Rattle.program.proofs.RecordTexts.{lines-held, lines_fit, record_wrote}
+use Rattle.program.proofs.RecordTexts.{lines_fit, record_wrote}
 use Rattle.program.proofs.evaluate.put_record.Goals as goal
 
 pub put_lines-requires : goal.put_lines-requires
@@ -10,7 +10,6 @@ put_lines-requires c =
     let s = c in
     let w = c.put_word-first_at in
     let f = c.put_lines-rows_at in (
-      lines-held _ _ _ s.requires _ c.fill.ensures.rows_after _ refl,
       search rules,
       lines_fit _ _ _ s.requires _ c.fill.ensures.rows_after _ _ _ _ _ w.ensures.value w.ensures.out_after f.ensures.value f.ensures.out_after refl,
     )

@@ -7,8 +7,5 @@ use Rattle.program.proofs.read.over_room.Goals as goal
 pub returns-then-most-num_vars : goal.returns-then-most-num_vars
 returns-then-most-num_vars c = room_past _ (omega arith)
 
-pub returns-then-most-num_vars-2 : goal.returns-then-most-num_vars-2
-returns-then-most-num_vars-2 c = room_past _ (omega arith)
-
 pub returns : goal.returns
 returns c = room_is _ (omega arith)

@@ -1,37 +1,34 @@
 -- `program::read::read_head` meets its contract.
 -- Assumes nothing.
-use mathlib.Core.Path.{ap, ◌∙◌}
-use native.Mathlib.Omega.{arith}
-use lib.ListN.{length-set}
-use Rattle.numbers.specs.Answer.{read_told}
-use Rattle.record.proofs.Ways.{heard}
-use Rattle.program.proofs.Cells.{where_refused}
+use Rattle.std.proofs.Common.{[], ◌∷◌, sym, ◌∙◌}
+use Rattle.refusal.proofs.Passing.{told_up}
+use Rattle.numbers.proofs.Below.{below_is_read}
 use Rattle.program.proofs.Heads.{ctx_off, clk_off, head_rest, head_stored}
 use Rattle.program.proofs.read.read_head.Goals as goal
 
-pub returns-in_default : goal.returns-in_default
-returns-in_default c =
-    let t = ctx_off _ _ _ (heard c.read_below-ctx.ensures c.in_default.is) in
-    record { result_value = ap read_told c.in_default.is ∙ t; where_accepted = where_refused _ _ _ t }
+pub returns-in_err-ctx-clause-result_value : goal.returns-in_err-ctx-clause-result_value
+returns-in_err-ctx-clause-result_value c =
+    told_up (λ read. 0 ∷ read.1 ∷ []) _ _ c.from_residual.ensures ∙ ctx_off _ _ _ (sym c.in_err-ctx.ensures)
 
-pub returns-in_default-clk : goal.returns-in_default-clk
-returns-in_default-clk c =
-    let e = heard c.read_below-ctx.ensures c.in-Number.is in
-    let t = clk_off _ _ _ e _ _ (heard c.read_below-clk.ensures c.in_default-clk.is) in
-    record { result_value = ap read_told c.in_default-clk.is ∙ t; where_accepted = where_refused _ _ _ t }
+pub returns-in_err-clk-clause-result_value : goal.returns-in_err-clk-clause-result_value
+returns-in_err-clk-clause-result_value c =
+    told_up (λ read. 0 ∷ read.1 ∷ []) _ _ c.from_residual-in_err-clk.ensures
+    ∙ clk_off _ _ _ (sym c.in_ok-ctx.ensures) _ _ (sym c.in_err-clk.ensures)
 
-pub read_numbers-requires : goal.read_numbers-requires
-read_numbers-requires c = simp length-set (omega arith)
+pub returns-in_err-cells_at-clause-result_value : goal.returns-in_err-cells_at-clause-result_value
+returns-in_err-cells_at-clause-result_value c =
+    told_up (λ read. 0 ∷ read.1 ∷ []) _ _ c.from_residual-in_err-cells_at.ensures
+    ∙ c.in_err-cells_at.ensures.result_value
+    ∙ head_rest _ _ _ (sym c.in_ok-ctx.ensures) _ _ (sym c.in_ok-clk.ensures)
 
-pub shape_of-head : goal.shape_of-head
-shape_of-head c = c.read_numbers.auto.cells ∙ simp length-set
+pub overflow_cast-head : goal.overflow_cast-head
+overflow_cast-head c = record { fits = (below_is_read _ _ _ _ _ (sym c.in_ok-ctx.ensures)).below }
 
-pub returns : goal.returns
-returns c =
-    let e = heard c.read_below-ctx.ensures c.in-Number.is in
-    let f = heard c.read_below-clk.ensures c.in-Number-clk.is in
-    let k = c.read_numbers in
-    record {
-      result_value = k.ensures.result_value ∙ head_rest _ _ _ e _ _ f;
-      where_accepted = λ vs q. head_stored _ _ _ e _ _ f c.args.head.now _ (k.ensures.where_accepted vs (head_rest _ _ _ e _ _ f ∙ q)) c.requires;
-    }
+pub overflow_cast-head-2 : goal.overflow_cast-head-2
+overflow_cast-head-2 c = record { fits = (below_is_read _ _ _ _ _ (sym c.in_ok-clk.ensures)).below }
+
+pub returns-clause-result_value : goal.returns-clause-result_value
+returns-clause-result_value c = c.in_ok-cells_at.ensures.result_value ∙ head_rest _ _ _ (sym c.in_ok-ctx.ensures) _ _ (sym c.in_ok-clk.ensures)
+
+pub returns-clause-head : goal.returns-clause-head
+returns-clause-head c = head_stored _ _ _ (sym c.in_ok-ctx.ensures) _ _ (sym c.in_ok-clk.ensures) _ c.in_ok-cells_at.ensures.cells_after

@@ -1,6 +1,6 @@
--- The place rises up to the length.
-use Rattle.std.proofs.Common.{length, ◌-◌}
+-- What is written fits.
+use Rattle.std.proofs.Common.{◌≤◌, length}
 use Rattle.replay.proofs.say.numbers.Given as goal
 
-abbrev pub decreases-loop-i : goal.decreases-loop-i
-decreases-loop-i g l = length l.numbers - l.i
+abbrev pub invariant-loop-number : goal.invariant-loop-number
+invariant-loop-number g l = l.used ≤ length l.bytes

@@ -1,14 +1,9 @@
 -- `rows::cols::read_cols` meets its contract.
 -- Assumes nothing.
-use native.Mathlib.Omega.{arith}
-use Prim.Native.Nat.{◌+◌, ◌*◌}
+use Rattle.std.proofs.Common.{rules}
 use Rattle.rows.proofs.cols.read_cols.Goals as goal
 
-pub overflow_cast-m_0 : goal.overflow_cast-m_0
-overflow_cast-m_0 c = omega (arith, c.shared_slice_known-3-1.given (2 * c.args.i))
-
-pub overflow_cast-m_1 : goal.overflow_cast-m_1
-overflow_cast-m_1 c = omega (arith, c.shared_slice_known-4-1.given (2 * c.args.i + 1))
-
+-- answered, so that a cell that differs is seen here: `search` would give up on it
 pub returns : goal.returns
-returns c = rw c.s_start-first.ensures
+returns c =
+    rw (c.from.ensures, c.from-2.ensures, c.from-3.ensures, c.from-last_eval.ensures, c.from-m_0.ensures, c.from-m_1.ensures) (search rules)

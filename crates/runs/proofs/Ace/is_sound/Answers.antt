@@ -1,36 +1,24 @@
 -- `runs::Ace::is_sound` meets its contract.
 -- Assumes nothing.
-use mathlib.Core.Path.{◌≡◌}
-use lib.ListN.{length}
-use borrow.Author.Rules.{rules}
-use Rattle.runs.proofs.Held.{held}
-use Rattle.runs.proofs.Scans.{ordered_start, ordered_on, ordered_end, sound_long, clock_low, counts_bad}
+use Rattle.std.proofs.Common.{◌≡◌, ◌∙◌, ap, true, rules, IsTrue, ◌↔◌, All}
+use Rattle.std.proofs.lemmas.List.Sorted.{answers_always}
+use lib.Dec.{ltb}
+use Rattle.runs.specs.declared.Entry.{Entry}
+use Rattle.runs.specs.Entries.{opens, in_order}
+use Rattle.runs.proofs.Scans.{sound_long, sound_short}
+use Rattle.runs.proofs.Rising.{sound_told, unsound_told}
 use Rattle.runs.proofs.Ace.is_sound.Goals as goal
-use Rattle.runs.proofs.Ace.is_sound.Goals.{After-struct_known-in-loop-i-1, In_default, Then-entry-least}
 
-pub returns-then-len-gt-MAX_EVAL_CIRCUIT_INVOCATIONS : goal.returns-then-len-gt-MAX_EVAL_CIRCUIT_INVOCATIONS
-returns-then-len-gt-MAX_EVAL_CIRCUIT_INVOCATIONS c = sound_long _ (search rules)
+pub returns-then-self-gt-MAX_EVAL_CIRCUIT_INVOCATIONS : goal.returns-then-self-gt-MAX_EVAL_CIRCUIT_INVOCATIONS
+returns-then-self-gt-MAX_EVAL_CIRCUIT_INVOCATIONS c = sound_long _ c.if-self-gt-MAX_EVAL_CIRCUIT_INVOCATIONS.true
 
-pub loop-i-init : goal.loop-i-init
-loop-i-init c = ordered_start _ (search rules)
+pub returns-then-is_sorted_by : goal.returns-then-is_sorted_by
+returns-then-is_sorted_by c =
+    let opening : IsTrue c.all.result ↔ All (λ (e : Entry). opens e ≡ true) c.used-used.result.now = search rules in
+    let rising = c.if-is_sorted_by.ensures.cases (λ (x y : Entry). ltb x.clk y.clk) (answers_always _ _ _ (λ f a r g called. search rules)) in
+    sound_told c.used-used.result.now _ rising opening ∙ ap (in_order 0) c.used-used.ensures ∙ sound_short _ c.if-self-gt-MAX_EVAL_CIRCUIT_INVOCATIONS.false
 
-long : (s : Then-entry-least) → length s.args.self.entries ≡ 32
-long s = held s.args.self _ s.well_formed.0
-
-pub returns-then-entry-least : goal.returns-then-entry-least
-returns-then-entry-least c = clock_low _ _ _ c.loop-i.invariant (long c) (search rules) (search rules)
-
-long-2 : (s : In_default) → length s.args.self.entries ≡ 32
-long-2 s = held s.args.self _ s.well_formed.0
-
-pub returns-in_default : goal.returns-in_default
-returns-in_default c = counts_bad _ _ _ _ _ _ c.loop-i.invariant (long-2 c) (search rules) c.test_counts.ensures c.in_default.is
-
-long-3 : (s : After-struct_known-in-loop-i-1) → length s.args.self.entries ≡ 32
-long-3 s = held s.args.self _ s.well_formed.0
-
-pub loop-i-preserved : goal.loop-i-preserved
-loop-i-preserved c = ordered_on _ _ _ _ c.loop-i.invariant (long-3 c) (search rules) (search rules) c.test_counts.ensures c.in-Passed.is
-
-pub returns : goal.returns
-returns c = ordered_end _ _ _ c.loop-i.invariant (search rules)
+pub returns-else-is_sorted_by : goal.returns-else-is_sorted_by
+returns-else-is_sorted_by c =
+    let low = c.if-is_sorted_by.ensures.cases (λ (x y : Entry). ltb x.clk y.clk) (answers_always _ _ _ (λ f a r g called. search rules)) in
+    c.if-is_sorted_by.false ∙ unsound_told c.used-used.result.now low ∙ ap (in_order 0) c.used-used.ensures ∙ sound_short _ c.if-self-gt-MAX_EVAL_CIRCUIT_INVOCATIONS.false

@@ -1,6 +1,0 @@
--- The place rises up to the patch's length.
-use Rattle.std.proofs.Common.{length, ◌-◌}
-use Rattle.edges_records.proofs.patch.put.Given as goal
-
-abbrev pub decreases-loop-i : goal.decreases-loop-i
-decreases-loop-i l = length l.patch - l.i

@@ -1,6 +1,0 @@
--- The place rises up to the length.
-use Rattle.std.proofs.Common.{length, ◌-◌}
-use Rattle.edges_rows.proofs.cells.tell.Given as goal
-
-abbrev pub decreases-loop-i : goal.decreases-loop-i
-decreases-loop-i g l = length l.cells - l.i

@@ -1,6 +1,0 @@
--- The place rises up to the number of cells.
-use Rattle.std.proofs.Common.{◌-◌}
-use Rattle.replay.proofs.cells.tell_sum.Given as goal
-
-abbrev pub decreases-loop-k : goal.decreases-loop-k
-decreases-loop-k g l = l.cells - l.k

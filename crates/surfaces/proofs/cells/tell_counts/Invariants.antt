@@ -1,6 +1,0 @@
--- The place rises up to the length.
-use Rattle.std.proofs.Common.{length, ◌-◌}
-use Rattle.surfaces.proofs.cells.tell_counts.Given as goal
-
-abbrev pub decreases-loop-i : goal.decreases-loop-i
-decreases-loop-i g l = length l.counts - l.i

@@ -1,6 +1,0 @@
--- The place rises up to the length.
-use Rattle.std.proofs.Common.{length, ◌-◌}
-use Rattle.surfaces.proofs.same.is_same_counts.Given as goal
-
-abbrev pub decreases-loop-i : goal.decreases-loop-i
-decreases-loop-i l = length l.a - l.i

@@ -1,0 +1,39 @@
+// The three buffers that calls are lent.
+use crate::lists::Cells;
+use std::fmt;
+
+// What cells hold before a call, where nothing else is said.
+pub const CANARY: u64 = 9;
+
+pub const COUNT_CANARY: u32 = 9;
+
+// How many cells of each buffer a call is lent, from the first on.
+#[derive(Clone, Copy)]
+pub struct Lengths {
+    pub values: usize,
+    pub counts: usize,
+    pub nodes: usize,
+}
+
+impl Lengths {
+    pub const NOTHING: Lengths = Lengths {
+        values: 0,
+        counts: 0,
+        nodes: 0,
+    };
+}
+
+#[derive(Clone, Copy)]
+pub struct Buffers<const V: usize, const C: usize, const N: usize> {
+    pub values: [u64; V],
+    pub counts: [u32; C],
+    pub nodes: [u64; N],
+}
+
+impl<const V: usize, const C: usize, const N: usize> fmt::Display for Buffers<V, C, N> {
+    fn fmt<W: fmt::Write>(&self, f: &mut fmt::Formatter<W>) -> fmt::Result {
+        write!(f, " values{}", Cells(&self.values))?;
+        write!(f, " counts{}", Cells(&self.counts))?;
+        write!(f, " nodes{}", Cells(&self.nodes))
+    }
+}
