@@ -40,7 +40,7 @@ pub(crate) fn elements<const N: usize>(numbers: [u64; N]) -> Result<[Felt; N], R
 {
     test_elements(&numbers)?;
     let mut felts = [Felt { value: 0 }; N];
-    // By index: for any N, `map` asks that an iterator of the numbers fits in memory, and what `from_fn` says needs an induction.
+    // By index: `map` asks that its iterator fits in memory, and what `from_fn` promises takes an induction to use.
     for at in 0..N {
         felts[at] = Felt { value: numbers[at] };
     }
