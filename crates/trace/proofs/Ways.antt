@@ -10,7 +10,7 @@ use native.Mathlib.Omega.{arith}
 use lib.Dec.{ltb}
 use lib.ListN.{length, get_or}
 use borrow.Author.Tests.{ltb-true}
-use Rattle.refusal.specs.Told.{accepted, refused}
+use Rattle.refusal.specs.Told.{Told, accepted, refused}
 use Rattle.field.specs.Field.{p, sub_f}
 use Rattle.field.specs.Pair.{Pair, pair, Elements}
 use Rattle.field.specs.Answer.{pair_of}
@@ -25,6 +25,7 @@ use Rattle.trace.specs.declared.CircuitEvaluation.{CircuitEvaluation}
 use Rattle.trace.specs.Counts.{most_wires}
 use Rattle.trace.specs.State.{wires_of, made_of, read_turn, eval_turn}
 use Rattle.trace.specs.Outcome.{Lent, lent, outcome, fits, value_at}
+use Rattle.trace.specs.Record.{tested_told}
 use Rattle.trace.specs.Read.{read_tests, read_made, read_step, first_pair, second_pair}
 use Rattle.trace.specs.Eval.{eval_tests, position, is_made, stored_answer, operand_answer, operand, raised, eval_made, operands_step, eval_step}
 use Rattle.trace.specs.declared.wire_bus.WireBus.{WireBus}
@@ -36,6 +37,10 @@ room-here : (s : CircuitEvaluation) (b : Lent) → Counts most_wires s.num_read 
 room-here s b h f =
     let r = room_of _ _ _ _ _ f in
     record { few = h.few; room-values = r.for_values; room-counts = r.for_counts; room-nodes = r.for_nodes }
+
+-- what a test told, once it is known to have passed
+pub passed : (r : Result Unit Refusal) (u : Unit) (t : Told) → tested_told r ≡ t → r ≡ Ok u → accepted [] ≡ t
+passed r u t e q = rw q at e
 
 -- READ
 module _ (s : CircuitEvaluation) (ptr : ℕ) (w : List (List ℕ)) (b : Lent) where

@@ -109,12 +109,7 @@ impl CircuitEvaluation {
         ensures { step_outcome result (lent values.new counts.new nodes.new) ≡ read_step self ptr word (lent values.old counts.old nodes.old) }
     {
         let tested = self.test_read(ptr, word, values.len(), counts.len(), nodes.len());
-        if let Err(refusal) = tested {
-            return Err(RefusedStep {
-                state: self,
-                refusal,
-            });
-        }
+        tested.map_err(|refusal| self.refused(refusal))?;
         self.read(ptr, word[0], word[1], values, counts, nodes);
         self.reads_done += 1;
         self.id_next -= 2;
@@ -132,38 +127,18 @@ impl CircuitEvaluation {
         ensures { step_outcome result (lent values.new counts.new nodes.new) ≡ eval_step self ptr instruction (lent values.old counts.old nodes.old) }
     {
         let tested = self.test_eval(ptr, instruction, values.len(), counts.len(), nodes.len());
-        if let Err(refusal) = tested {
-            return Err(RefusedStep {
-                state: self,
-                refusal,
-            });
-        }
+        tested.map_err(|refusal| self.refused(refusal))?;
         let gate = self.evals_done as u64;
         let Ok((id_l, id_r, op)) = decode_instruction(instruction) else {
-            return Err(RefusedStep {
-                state: self,
-                refusal: Refusal::NotInstruction(gate),
-            });
+            return Err(self.refused(Refusal::NotInstruction(gate)));
         };
         let bus = self.wire_bus();
         // "As in the Rust, the left count is raised before the right operand is looked at, and
         // stays raised where the right is refused."
         let left = bus.read_value(id_l as usize, Refusal::LeftNotMade(gate), values, counts);
-        let v_l = match left {
-            Ok(value) => value,
-            Err(refusal) => return Err(RefusedStep {
-                state: self,
-                refusal,
-            }),
-        };
+        let v_l = left.map_err(|refusal| self.refused(refusal))?;
         let right = bus.read_value(id_r as usize, Refusal::RightNotMade(gate), values, counts);
-        let v_r = match right {
-            Ok(value) => value,
-            Err(refusal) => return Err(RefusedStep {
-                state: self,
-                refusal,
-            }),
-        };
+        let v_r = right.map_err(|refusal| self.refused(refusal))?;
         self.gate(ptr, id_l, id_r, op, v_l, v_r, values, counts, nodes);
         self.evals_done += 1;
         self.id_next = before(self.id_next);

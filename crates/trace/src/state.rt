@@ -11,7 +11,9 @@ ghost use Rattle.trace.specs.Output.{header_of};
 ghost use Rattle.trace.specs.Record.{tested_told};
 
 use crate::counts::test_counts;
-use crate::{CircuitEvaluation, EVAL_CELLS, MAX_EVAL_CIRCUIT_WIRES, READ_CELLS, RecordHeader};
+use crate::{
+    CircuitEvaluation, EVAL_CELLS, MAX_EVAL_CIRCUIT_WIRES, READ_CELLS, RecordHeader, RefusedStep,
+};
 use field::P;
 use field::cells::test_elements;
 use refusal::Refusal;
@@ -40,6 +42,16 @@ fn test_handed(ptr: u64, word: [[u64; 2]; 2]) -> Result<(), Refusal>
 }
 
 impl CircuitEvaluation {
+    // A refused step gives the state back beside the refusal.
+    pub(crate) fn refused(self, refusal: Refusal) -> RefusedStep
+        ensures { result ≡ record { state = self; refusal = refusal } }
+    {
+        RefusedStep {
+            state: self,
+            refusal,
+        }
+    }
+
     pub(crate) fn header(self) -> RecordHeader
         ensures { result ≡ header_of self }
     {
