@@ -12,10 +12,10 @@ mod wire_bus;
 ghost use Rattle.std.specs.Prelude.{◌≡◌, [], length};
 ghost use Rattle.refusal.specs.Told.{accepted};
 ghost use Rattle.trace.specs.Outcome.{lent, step_outcome};
-ghost use Rattle.trace.specs.Open.{open_told, open_answer};
+ghost use Rattle.trace.specs.Open.{numbers_of, open_told, open_answer};
 ghost use Rattle.trace.specs.Read.{read_step};
 ghost use Rattle.trace.specs.Eval.{eval_step};
-ghost use Rattle.trace.specs.Output.{output_told, output_answer};
+ghost use Rattle.trace.specs.Output.{header_numbers, output_told, output_answer};
 ghost use Rattle.trace.specs.Record.{tested_told, header_told, of_record, finalized_answer};
 
 use crate::counts::test_counts;
@@ -60,6 +60,36 @@ pub struct RecordHeader {
 pub struct RefusedStep {
     pub state: CircuitEvaluation,
     pub refusal: Refusal,
+}
+
+impl From<CircuitEvaluation> for [u64; 7] {
+    ghost from_gives = { λ state numbers. numbers ≡ numbers_of state };
+
+    fn from(state: CircuitEvaluation) -> [u64; 7] {
+        [
+            state.ctx.into(),
+            state.clk.into(),
+            state.num_read.into(),
+            state.num_eval.into(),
+            state.reads_done.into(),
+            state.evals_done.into(),
+            state.id_next,
+        ]
+    }
+}
+
+impl From<RecordHeader> for [u64; 5] {
+    ghost from_gives = { λ header numbers. numbers ≡ header_numbers header };
+
+    fn from(header: RecordHeader) -> [u64; 5] {
+        [
+            header.ctx.into(),
+            header.clk.into(),
+            header.num_read.into(),
+            header.num_eval.into(),
+            header.id_next,
+        ]
+    }
 }
 
 impl From<RefusedStep> for Refusal {
