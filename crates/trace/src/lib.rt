@@ -1,5 +1,7 @@
 // Wires and steps: a circuit is evaluated one READ or EVAL step at a time, over lent value cells,
-// counts and node cells. The state goes in by value and comes back with the answer.
+// counts and node cells. The state goes in by value and comes back with the answer. The three are
+// parameters apart in every crate: a lent struct of them asks of each contract a second clause, that
+// its slices were not exchanged, and has to be made for every call.
 #![tactic(auto)]
 
 pub mod counts;
@@ -128,6 +130,7 @@ impl CircuitEvaluation {
         })
     }
 
+    // "Each step hands the state on by value and gives it back."
     pub fn do_read(
         mut self,
         ptr: u64,
