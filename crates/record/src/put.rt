@@ -38,6 +38,7 @@ fn put_wires(values: &[u64], counts: &[u32], out: &mut [u8], at: usize) -> usize
     ensures out_after { out.new ≡ sets out.old at (bytes_of_all (each (wire_numbers values.now counts.now) (length counts.now))) }
 {
     let mut next = at;
+    // By index, as in `wires_width`.
     for k in 0..counts.len() {
         next = put_numbers(&wire(values, counts, k), out, next);
     }

@@ -21,6 +21,7 @@ fn wires_width(values: &[u64], counts: &[u32]) -> usize
     ensures { result ≡ length (bytes_of_all (each (wire_numbers values.now counts.now) (length counts.now))) }
 {
     let mut total: usize = 0;
+    // By index: over `chunks_exact(2).zip(counts)`, whose pairs no lemma places, the total's proof did not close.
     for k in 0..counts.len() {
         total += numbers_width(&wire(values, counts, k));
     }
