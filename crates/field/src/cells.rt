@@ -15,6 +15,7 @@ pub fn first_over(cells: &[u64], start: usize, end: usize) -> usize
     ensures { result ≡ start + first_over (take (end - start) (drop start cells.now)) }
 {
     let stop = end.min(cells.len());
+    // By index: `position` counts from start, in a slice that a start past the end does not have.
     for at in start..stop {
         if P <= cells[at] {
             return at;
@@ -40,7 +41,7 @@ pub(crate) fn elements<const N: usize>(numbers: [u64; N]) -> Result<[Felt; N], R
 {
     test_elements(&numbers)?;
     let mut felts = [Felt { value: 0 }; N];
-    // By index: `map` asks that its iterator fits in memory, and what `from_fn` promises takes an induction to use.
+    // By index: `map` asks that its iterator fits in memory; in `from_fn`, that the closure's result is below P (`invariant_of-result`) did not close.
     for at in 0..N {
         felts[at] = Felt { value: numbers[at] };
     }
