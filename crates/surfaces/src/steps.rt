@@ -1,5 +1,5 @@
-// The two surfaces: each call gives its answer, and the state after it.
-use in_place::{Stepped, through};
+// The two surfaces: each call gives the state after it, beside a refusal too.
+use in_place::through;
 use refusal::Refusal;
 use telling::buffers::Buffers;
 use trace::{CircuitEvaluation, RecordHeader, RefusedStep};
@@ -7,67 +7,52 @@ use trace::{CircuitEvaluation, RecordHeader, RefusedStep};
 // What the listing's six wires and five nodes need, and cells past them.
 pub type Lent = Buffers<14, 8, 53>;
 
+pub type Step = Result<CircuitEvaluation, RefusedStep>;
+
 pub trait Surface {
     const NAME: &'static str;
 
     // In the listing's context and at its clock.
-    fn new(state: CircuitEvaluation, num_read: u32, num_eval: u32, lent: &Lent) -> Stepped;
+    fn new(state: CircuitEvaluation, num_read: u32, num_eval: u32, lent: &Lent) -> Step;
 
-    fn do_read(state: CircuitEvaluation, ptr: u64, word: [[u64; 2]; 2], lent: &mut Lent) -> Stepped;
+    fn do_read(state: CircuitEvaluation, ptr: u64, word: [[u64; 2]; 2], lent: &mut Lent) -> Step;
 
-    fn do_eval(state: CircuitEvaluation, ptr: u64, instruction: u64, lent: &mut Lent) -> Stepped;
+    fn do_eval(state: CircuitEvaluation, ptr: u64, instruction: u64, lent: &mut Lent) -> Step;
 
     fn output_value(state: CircuitEvaluation, lent: &Lent) -> Result<RecordHeader, Refusal>;
 }
 
 pub struct ByValue;
 
-fn stepped(step: Result<CircuitEvaluation, RefusedStep>) -> Stepped {
-    Stepped {
-        state: step.unwrap_or_else(|refused| refused.state),
-        told: step.map(|_| ()).map_err(|refused| refused.refusal),
-    }
-}
-
 impl Surface for ByValue {
     const NAME: &'static str = "by value";
 
-    fn new(state: CircuitEvaluation, num_read: u32, num_eval: u32, lent: &Lent) -> Stepped {
-        let opened = CircuitEvaluation::new(
-            0,
-            7,
-            num_read,
-            num_eval,
-            &lent.values,
-            &lent.counts,
-            &lent.nodes,
-        );
-        stepped(opened.map_err(|refusal| RefusedStep { state, refusal }))
+    fn new(state: CircuitEvaluation, num_read: u32, num_eval: u32, lent: &Lent) -> Step {
+        let Buffers {
+            values,
+            counts,
+            nodes,
+        } = lent;
+        CircuitEvaluation::new(0, 7, num_read, num_eval, values, counts, nodes)
+            .map_err(|refusal| RefusedStep { state, refusal })
     }
 
-    fn do_read(
-        state: CircuitEvaluation,
-        ptr: u64,
-        word: [[u64; 2]; 2],
-        lent: &mut Lent,
-    ) -> Stepped {
-        stepped(state.do_read(
-            ptr,
-            word,
-            &mut lent.values,
-            &mut lent.counts,
-            &mut lent.nodes,
-        ))
+    fn do_read(state: CircuitEvaluation, ptr: u64, word: [[u64; 2]; 2], lent: &mut Lent) -> Step {
+        let Buffers {
+            values,
+            counts,
+            nodes,
+        } = lent;
+        state.do_read(ptr, word, values, counts, nodes)
     }
 
-    fn do_eval(state: CircuitEvaluation, ptr: u64, instruction: u64, lent: &mut Lent) -> Stepped {
-        stepped(state.do_eval(
-            ptr,
-            instruction,
-            &mut lent.values,
-            &mut lent.counts,
-            &mut lent.nodes,
-        ))
+    fn do_eval(state: CircuitEvaluation, ptr: u64, instruction: u64, lent: &mut Lent) -> Step {
+        let Buffers {
+            values,
+            counts,
+            nodes,
+        } = lent;
+        state.do_eval(ptr, instruction, values, counts, nodes)
     }
 
     fn output_value(state: CircuitEvaluation, lent: &Lent) -> Result<RecordHeader, Refusal> {
@@ -77,47 +62,35 @@ impl Surface for ByValue {
 
 pub struct InPlace;
 
+// No function of both surfaces: it would be passed the four calls, as each impl names them.
 impl Surface for InPlace {
     const NAME: &'static str = "in place";
 
-    fn new(state: CircuitEvaluation, num_read: u32, num_eval: u32, lent: &Lent) -> Stepped {
-        through::new(
-            state,
-            0,
-            7,
-            num_read,
-            num_eval,
-            &lent.values,
-            &lent.counts,
-            &lent.nodes,
-        )
+    fn new(state: CircuitEvaluation, num_read: u32, num_eval: u32, lent: &Lent) -> Step {
+        let Buffers {
+            values,
+            counts,
+            nodes,
+        } = lent;
+        through::new(state, 0, 7, num_read, num_eval, values, counts, nodes)
     }
 
-    fn do_read(
-        state: CircuitEvaluation,
-        ptr: u64,
-        word: [[u64; 2]; 2],
-        lent: &mut Lent,
-    ) -> Stepped {
-        through::do_read(
-            state,
-            ptr,
-            word,
-            &mut lent.values,
-            &mut lent.counts,
-            &mut lent.nodes,
-        )
+    fn do_read(state: CircuitEvaluation, ptr: u64, word: [[u64; 2]; 2], lent: &mut Lent) -> Step {
+        let Buffers {
+            values,
+            counts,
+            nodes,
+        } = lent;
+        through::do_read(state, ptr, word, values, counts, nodes)
     }
 
-    fn do_eval(state: CircuitEvaluation, ptr: u64, instruction: u64, lent: &mut Lent) -> Stepped {
-        through::do_eval(
-            state,
-            ptr,
-            instruction,
-            &mut lent.values,
-            &mut lent.counts,
-            &mut lent.nodes,
-        )
+    fn do_eval(state: CircuitEvaluation, ptr: u64, instruction: u64, lent: &mut Lent) -> Step {
+        let Buffers {
+            values,
+            counts,
+            nodes,
+        } = lent;
+        through::do_eval(state, ptr, instruction, values, counts, nodes)
     }
 
     fn output_value(state: CircuitEvaluation, lent: &Lent) -> Result<RecordHeader, Refusal> {
