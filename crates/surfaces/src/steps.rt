@@ -28,31 +28,36 @@ impl Surface for ByValue {
     const NAME: &'static str = "by value";
 
     fn new(state: CircuitEvaluation, num_read: u32, num_eval: u32, lent: &Lent) -> Step {
-        let Buffers {
-            values,
-            counts,
-            nodes,
-        } = lent;
-        CircuitEvaluation::new(0, 7, num_read, num_eval, values, counts, nodes)
-            .map_err(|refusal| RefusedStep { state, refusal })
+        let opened = CircuitEvaluation::new(
+            0,
+            7,
+            num_read,
+            num_eval,
+            &lent.values,
+            &lent.counts,
+            &lent.nodes,
+        );
+        opened.map_err(|refusal| RefusedStep { state, refusal })
     }
 
     fn do_read(state: CircuitEvaluation, ptr: u64, word: [[u64; 2]; 2], lent: &mut Lent) -> Step {
-        let Buffers {
-            values,
-            counts,
-            nodes,
-        } = lent;
-        state.do_read(ptr, word, values, counts, nodes)
+        state.do_read(
+            ptr,
+            word,
+            &mut lent.values,
+            &mut lent.counts,
+            &mut lent.nodes,
+        )
     }
 
     fn do_eval(state: CircuitEvaluation, ptr: u64, instruction: u64, lent: &mut Lent) -> Step {
-        let Buffers {
-            values,
-            counts,
-            nodes,
-        } = lent;
-        state.do_eval(ptr, instruction, values, counts, nodes)
+        state.do_eval(
+            ptr,
+            instruction,
+            &mut lent.values,
+            &mut lent.counts,
+            &mut lent.nodes,
+        )
     }
 
     fn output_value(state: CircuitEvaluation, lent: &Lent) -> Result<RecordHeader, Refusal> {
@@ -67,30 +72,38 @@ impl Surface for InPlace {
     const NAME: &'static str = "in place";
 
     fn new(state: CircuitEvaluation, num_read: u32, num_eval: u32, lent: &Lent) -> Step {
-        let Buffers {
-            values,
-            counts,
-            nodes,
-        } = lent;
-        through::new(state, 0, 7, num_read, num_eval, values, counts, nodes)
+        through::new(
+            state,
+            0,
+            7,
+            num_read,
+            num_eval,
+            &lent.values,
+            &lent.counts,
+            &lent.nodes,
+        )
     }
 
     fn do_read(state: CircuitEvaluation, ptr: u64, word: [[u64; 2]; 2], lent: &mut Lent) -> Step {
-        let Buffers {
-            values,
-            counts,
-            nodes,
-        } = lent;
-        through::do_read(state, ptr, word, values, counts, nodes)
+        through::do_read(
+            state,
+            ptr,
+            word,
+            &mut lent.values,
+            &mut lent.counts,
+            &mut lent.nodes,
+        )
     }
 
     fn do_eval(state: CircuitEvaluation, ptr: u64, instruction: u64, lent: &mut Lent) -> Step {
-        let Buffers {
-            values,
-            counts,
-            nodes,
-        } = lent;
-        through::do_eval(state, ptr, instruction, values, counts, nodes)
+        through::do_eval(
+            state,
+            ptr,
+            instruction,
+            &mut lent.values,
+            &mut lent.counts,
+            &mut lent.nodes,
+        )
     }
 
     fn output_value(state: CircuitEvaluation, lent: &Lent) -> Result<RecordHeader, Refusal> {
