@@ -9,6 +9,7 @@ pub type Lent = Buffers<14, 8, 53>;
 
 pub type Step = Result<CircuitEvaluation, RefusedStep>;
 
+// No function that is passed the four calls: tried, and what a closure asks of a call got no proof.
 pub trait Surface {
     const NAME: &'static str;
 
@@ -67,7 +68,6 @@ impl Surface for ByValue {
 
 pub struct InPlace;
 
-// No function of both surfaces: it would be passed the four calls, as each impl names them.
 impl Surface for InPlace {
     const NAME: &'static str = "in place";
 
