@@ -10,12 +10,8 @@ use trace::{CircuitEvaluation, RefusedStep};
 #[derive(Clone, Copy)]
 pub enum StepCall {
     Set(CircuitEvaluation),
-    Open {
-        ctx: u32,
-        clk: u32,
-        num_read: u32,
-        num_eval: u32,
-    },
+    // ctx, clk, num_read and num_eval.
+    Open(u32, u32, u32, u32),
     Read(u64, [[u64; 2]; 2]),
     Eval(u64, u64),
     Output,
@@ -46,12 +42,12 @@ impl TryFrom<Words<'_>> for StepCall {
                 evals_done: u32::limited(evals_done),
                 id_next,
             })),
-            (11, &[ctx, clk, num_read, num_eval]) => Ok(Self::Open {
-                ctx: u32::limited(ctx),
-                clk: u32::limited(clk),
-                num_read: u32::limited(num_read),
-                num_eval: u32::limited(num_eval),
-            }),
+            (11, &[ctx, clk, num_read, num_eval]) => Ok(Self::Open(
+                u32::limited(ctx),
+                u32::limited(clk),
+                u32::limited(num_read),
+                u32::limited(num_eval),
+            )),
             (12, &[ptr, c0, c1, c2, c3]) => Ok(Self::Read(ptr, [[c0, c1], [c2, c3]])),
             (13, &[ptr, instruction]) => Ok(Self::Eval(ptr, instruction)),
             (14, []) => Ok(Self::Output),
@@ -111,12 +107,7 @@ pub fn answer(
             *state = given;
             Ok(())
         }
-        StepCall::Open {
-            ctx,
-            clk,
-            num_read,
-            num_eval,
-        } => {
+        StepCall::Open(ctx, clk, num_read, num_eval) => {
             let outcome = CircuitEvaluation::new(
                 ctx, clk, num_read, num_eval, values, counts, nodes,
             );
