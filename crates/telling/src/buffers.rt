@@ -37,3 +37,21 @@ impl<const V: usize, const C: usize, const N: usize> fmt::Display for Buffers<V,
         write!(f, " nodes{}", Cells(&self.nodes))
     }
 }
+
+// The first cells of each buffer, as a call that reads them is lent them.
+#[derive(Clone, Copy)]
+pub struct Lent<'a> {
+    pub values: &'a [u64],
+    pub counts: &'a [u32],
+    pub nodes: &'a [u64],
+}
+
+impl<'a, const V: usize, const C: usize, const N: usize> From<(&'a Buffers<V, C, N>, Lengths)> for Lent<'a> {
+    fn from((buffers, lengths): (&'a Buffers<V, C, N>, Lengths)) -> Self {
+        Lent {
+            values: &buffers.values[..lengths.values.min(buffers.values.len())],
+            counts: &buffers.counts[..lengths.counts.min(buffers.counts.len())],
+            nodes: &buffers.nodes[..lengths.nodes.min(buffers.nodes.len())],
+        }
+    }
+}
