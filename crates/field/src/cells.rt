@@ -41,7 +41,7 @@ pub(crate) fn elements<const N: usize>(numbers: [u64; N]) -> Result<[Felt; N], R
 {
     test_elements(&numbers)?;
     let mut felts = [Felt { value: 0 }; N];
-    // By index: `map` asks that its iterator fits in memory; in `from_fn`, that the closure's result is below P (`invariant_of-result`) did not close.
+    // By index: `map` asks that its iterator fits in memory; `from_fn`'s closure takes a requires and an ensures of its own, and `returns` did not close.
     for at in 0..N {
         felts[at] = Felt { value: numbers[at] };
     }
