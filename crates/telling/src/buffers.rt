@@ -1,4 +1,6 @@
 // The three buffers that calls are lent.
+ghost use Rattle.std.specs.Prelude.{◌≡◌, take};
+
 use crate::lists::Cells;
 use std::fmt;
 
@@ -46,12 +48,22 @@ pub struct Lent<'a> {
     pub nodes: &'a [u64],
 }
 
-impl<'a, const V: usize, const C: usize, const N: usize> From<(&'a Buffers<V, C, N>, Lengths)> for Lent<'a> {
+#[tactic(auto, using(std::proofs::lemmas::List::take_min))]
+fn first<T>(cells: &[T], n: usize) -> &[T]
+    ensures { result.now ≡ take n cells.now }
+{
+    &cells[..n.min(cells.len())]
+}
+
+impl<'a, const V: usize, const C: usize, const N: usize> From<(&'a Buffers<V, C, N>, Lengths)>
+    for Lent<'a> {
+    ghost from_gives = { λ from lent. (lent.values.now ≡ take from.1.values from.0.now.values) × (lent.counts.now ≡ take from.1.counts from.0.now.counts) × (lent.nodes.now ≡ take from.1.nodes from.0.now.nodes) };
+
     fn from((buffers, lengths): (&'a Buffers<V, C, N>, Lengths)) -> Self {
         Lent {
-            values: &buffers.values[..lengths.values.min(buffers.values.len())],
-            counts: &buffers.counts[..lengths.counts.min(buffers.counts.len())],
-            nodes: &buffers.nodes[..lengths.nodes.min(buffers.nodes.len())],
+            values: first(&buffers.values, lengths.values),
+            counts: first(&buffers.counts, lengths.counts),
+            nodes: first(&buffers.nodes, lengths.nodes),
         }
     }
 }

@@ -112,12 +112,7 @@ pub const BAD_COUNTS: &[(&str, RecordHeader)] = &[
 
 // Headers, and states below, each with what is lent.
 pub const TESTED: &[(&str, RecordHeader, Lengths, Buffers<7, 4, 19>)] = &[
-    (
-        "6 ahead of 17",
-        NO_ELEMENT,
-        NODES_SHORT,
-        BUFFERS,
-    ),
+    ("6 ahead of 17", NO_ELEMENT, NODES_SHORT, BUFFERS),
     ("id_next p", NO_ELEMENT, EXACT, BUFFERS),
     ("a used value cell is p", HEADER, WHOLE, LAST_VALUE_OVER),
     (
@@ -137,9 +132,7 @@ pub const NODES_TESTED: &[(&str, RecordHeader, Lengths, Buffers<7, 4, 19>)] = &[
         HEADER,
         WHOLE,
         Buffers {
-            nodes: [
-                0, 2, 3, 0, 1, 3, 0, 4, P - 1, 0, 0, 0, 2, 3, 0, 1, 3, P, 9,
-            ],
+            nodes: [0, 2, 3, 0, 1, 3, 0, 4, P - 1, 0, 0, 0, 2, 3, 0, 1, 3, P, 9],
             ..BUFFERS
         },
     ),
@@ -148,9 +141,7 @@ pub const NODES_TESTED: &[(&str, RecordHeader, Lengths, Buffers<7, 4, 19>)] = &[
         HEADER,
         WHOLE,
         Buffers {
-            nodes: [
-                0, 2, 3, 0, 1, 3, 0, 4, P - 1, 0, 0, 0, 2, 3, 0, 1, 3, 0, P,
-            ],
+            nodes: [0, 2, 3, 0, 1, 3, 0, 4, P - 1, 0, 0, 0, 2, 3, 0, 1, 3, 0, P],
             ..BUFFERS
         },
     ),
