@@ -41,13 +41,25 @@ const CELLS: &[(&str, Region)] = &[
         "cells 5 and 3 are p, the first counts",
         [3, 0, 4, P, ADD_5_4, P, SUB_3_3, MUL_1_2],
     ),
-    ("a cell p - 1 passes", [P - 1, 0, 4, 0, ADD_5_4, MUL_5_4, SUB_3_3, MUL_1_2]),
+    (
+        "a cell p - 1 passes",
+        [P - 1, 0, 4, 0, ADD_5_4, MUL_5_4, SUB_3_3, MUL_1_2],
+    ),
 ];
 
 const GATES: &[(&str, [u64; 4])] = &[
-    ("the first gate has opcode 3", [OPCODE_3, MUL_5_4, SUB_3_3, MUL_1_2]),
-    ("the last gate has opcode 3", [ADD_5_4, MUL_5_4, SUB_3_3, OPCODE_3]),
-    ("the second gate is p - 1", [ADD_5_4, P - 1, SUB_3_3, MUL_1_2]),
+    (
+        "the first gate has opcode 3",
+        [OPCODE_3, MUL_5_4, SUB_3_3, MUL_1_2],
+    ),
+    (
+        "the last gate has opcode 3",
+        [ADD_5_4, MUL_5_4, SUB_3_3, OPCODE_3],
+    ),
+    (
+        "the second gate is p - 1",
+        [ADD_5_4, P - 1, SUB_3_3, MUL_1_2],
+    ),
     ("8 ahead of 9", [OPCODE_3 + 3, MUL_5_4, SUB_3_3, MUL_1_2]),
     (
         "the first gate names id 3, itself, on the left",

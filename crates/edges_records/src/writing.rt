@@ -6,7 +6,10 @@ use std::io;
 use telling::answers::Answer;
 use telling::buffers::{Buffers, Lengths, Lent};
 use telling::lists::{Bytes, Numbers};
-use telling::small::{BAD_COUNTS, BUFFERS, EXACT, FINISHED, FIRST_VALUE_OVER, HEADER, LAST_WIRE_OVER, NODES_TESTED, ONE_SHORT, STATES, TESTED, WHOLE};
+use telling::small::{
+    BAD_COUNTS, BUFFERS, EXACT, FINISHED, FIRST_VALUE_OVER, HEADER, LAST_WIRE_OVER, NODES_TESTED,
+    ONE_SHORT, STATES, TESTED, WHOLE,
+};
 use trace::{CircuitEvaluation, RecordHeader};
 
 // Into the first `room` of 53 bytes.
@@ -34,13 +37,9 @@ fn write_over(
     room: usize,
 ) -> io::Result<()> {
     let lent = Lent::from((&buffers, lengths));
-    tell(
-        rt,
-        "write_into",
-        case,
-        room,
-        |out| { write_into(header, lent.values, lent.counts, lent.nodes, out) },
-    )
+    tell(rt, "write_into", case, room, |out| {
+        write_into(header, lent.values, lent.counts, lent.nodes, out)
+    })
 }
 
 pub fn records(rt: &impl Print) -> io::Result<()> {
@@ -89,13 +88,9 @@ fn write_state_over(
     room: usize,
 ) -> io::Result<()> {
     let lent = Lent::from((&buffers, lengths));
-    tell(
-        rt,
-        "write_state_into",
-        case,
-        room,
-        |out| { write_state_into(state, lent.values, lent.counts, lent.nodes, out) },
-    )
+    tell(rt, "write_state_into", case, room, |out| {
+        write_state_into(state, lent.values, lent.counts, lent.nodes, out)
+    })
 }
 
 pub fn from_states(rt: &impl Print) -> io::Result<()> {

@@ -7,7 +7,10 @@ use std::io;
 use telling::answers::Answer;
 use telling::buffers::{Buffers, CANARY, Lengths, Lent};
 use telling::lists::{Cells, Numbers};
-use telling::small::{BAD_COUNTS, BUFFERS, EXACT, FINISHED, FIRST_VALUE_OVER, HEADER, LAST_WIRE_OVER, NODES_TESTED, ONE_SHORT, STATES, TESTED, WHOLE};
+use telling::small::{
+    BAD_COUNTS, BUFFERS, EXACT, FINISHED, FIRST_VALUE_OVER, HEADER, LAST_WIRE_OVER, NODES_TESTED,
+    ONE_SHORT, STATES, TESTED, WHOLE,
+};
 use trace::{CircuitEvaluation, RecordHeader};
 
 // The row that is filled first, and how many cells are lent.
@@ -60,14 +63,9 @@ fn fill_over(
     room: usize,
 ) -> io::Result<()> {
     let lent = Lent::from((&buffers, lengths));
-    tell(
-        rt,
-        "fill",
-        case,
-        [CANARY; 49],
-        room,
-        |rows| { fill(header, lent.values, lent.counts, lent.nodes, offset, rows) },
-    )
+    tell(rt, "fill", case, [CANARY; 49], room, |rows| {
+        fill(header, lent.values, lent.counts, lent.nodes, offset, rows)
+    })
 }
 
 pub fn rows_filled(rt: &impl Print) -> io::Result<()> {
@@ -143,14 +141,9 @@ fn fill_state_over(
     room: usize,
 ) -> io::Result<()> {
     let lent = Lent::from((&buffers, lengths));
-    tell(
-        rt,
-        "fill_state",
-        case,
-        [CANARY; 33],
-        room,
-        |rows| { fill_state(state, lent.values, lent.counts, lent.nodes, 0, rows) },
-    )
+    tell(rt, "fill_state", case, [CANARY; 33], room, |rows| {
+        fill_state(state, lent.values, lent.counts, lent.nodes, 0, rows)
+    })
 }
 
 pub fn from_states(rt: &impl Print) -> io::Result<()> {

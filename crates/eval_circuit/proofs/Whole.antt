@@ -280,51 +280,51 @@ module _
     (b : Lent)
     (tested : accepted [] ≡ of_region ptr num-vars num-eval (memory_cells memory) (accepted []))
   where
-  region : Region ptr num-vars num-eval (memory_cells memory)
-  region = region_tested ptr num-vars num-eval (memory_cells memory) tested
+    region : Region ptr num-vars num-eval (memory_cells memory)
+    region = region_tested ptr num-vars num-eval (memory_cells memory) tested
 
-  pub short_refused : {n k : ℕ} → refused n k ≡ open_answer ctx clk (num-vars / 2) num-eval b
-      → (refused n k ≡ eval_answer ctx clk ptr num-vars num-eval memory b) × (b ≡ eval_buffers ctx clk ptr num-vars num-eval memory b)
-  short_refused e = stops_short ctx clk ptr num-vars num-eval memory b region _ _ e
+    pub short_refused : {n k : ℕ} → refused n k ≡ open_answer ctx clk (num-vars / 2) num-eval b
+        → (refused n k ≡ eval_answer ctx clk ptr num-vars num-eval memory b) × (b ≡ eval_buffers ctx clk ptr num-vars num-eval memory b)
+    short_refused e = stops_short ctx clk ptr num-vars num-eval memory b region _ _ e
 
-  -- once the circuit has been opened and its cells have been looked at
-  module _
-      (s : CircuitEvaluation)
-      (end over : ℕ)
-      (opening : accepted (numbers_of s) ≡ open_answer ctx clk (num-vars / 2) num-eval b)
-      (look : over ≡ ptr + first_over (take (end - ptr) (drop ptr memory)))
-      (at_end : end ≡ ptr + region_cells num-vars num-eval)
-    where
-    opened-as : (room (num-vars / 2) num-eval (length b.values) (length b.counts) (length b.nodes) ≡ true) × (s ≡ opened ctx clk (num-vars / 2) num-eval)
-    opened-as = opened_is ctx clk ptr num-vars num-eval memory b region s opening
+    -- once the circuit has been opened and its cells have been looked at
+    module _
+        (s : CircuitEvaluation)
+        (end over : ℕ)
+        (opening : accepted (numbers_of s) ≡ open_answer ctx clk (num-vars / 2) num-eval b)
+        (look : over ≡ ptr + first_over (take (end - ptr) (drop ptr memory)))
+        (at_end : end ≡ ptr + region_cells num-vars num-eval)
+      where
+        opened-as : (room (num-vars / 2) num-eval (length b.values) (length b.counts) (length b.nodes) ≡ true) × (s ≡ opened ctx clk (num-vars / 2) num-eval)
+        opened-as = opened_is ctx clk ptr num-vars num-eval memory b region s opening
 
-    found-over : over ≡ ptr + first_over (circuit_at memory ptr num-vars num-eval).cells
-    found-over = over_is memory ptr num-vars num-eval end over look at_end
+        found-over : over ≡ ptr + first_over (circuit_at memory ptr num-vars num-eval).cells
+        found-over = over_is memory ptr num-vars num-eval end over look at_end
 
-    pub over_refused : over < end → (refused 7 over ≡ eval_answer ctx clk ptr num-vars num-eval memory b) × (b ≡ eval_buffers ctx clk ptr num-vars num-eval memory b)
-    over_refused h = stops_over ctx clk ptr num-vars num-eval memory b region opened-as.0 over found-over (omega arith)
+        pub over_refused : over < end → (refused 7 over ≡ eval_answer ctx clk ptr num-vars num-eval memory b) × (b ≡ eval_buffers ctx clk ptr num-vars num-eval memory b)
+        over_refused h = stops_over ctx clk ptr num-vars num-eval memory b region opened-as.0 over found-over (omega arith)
 
-    module _ (none : end ≤ over) where
-      past : ptr + region_cells num-vars num-eval ≤ over
-      past = omega arith
+        module _ (none : end ≤ over) where
+          past : ptr + region_cells num-vars num-eval ≤ over
+          past = omega arith
 
-      pub run_prepared : Prepared s memory ptr b × (s ≡ after s 0 0)
-      run_prepared = prepared ctx clk ptr num-vars num-eval memory b region opened-as.0 over found-over past s opened-as.1
+          pub run_prepared : Prepared s memory ptr b × (s ≡ after s 0 0)
+          run_prepared = prepared ctx clk ptr num-vars num-eval memory b region opened-as.0 over found-over past s opened-as.1
 
-      -- and by what the run answered
-      module _
-          (a : Result RecordHeader Refusal)
-          (d : Lent)
-          (q : output_told a ≡ circuit_answer s.ctx s.clk (circuit_of s memory ptr))
-          (ran : Ran a s (circuit_of s memory ptr) ptr d b)
-        where
-        pub run_accepted : is_err a ≡ false → (output_told a ≡ eval_answer ctx clk ptr num-vars num-eval memory b) × (d ≡ eval_buffers ctx clk ptr num-vars num-eval memory b)
-        run_accepted = ends_zero ctx clk ptr num-vars num-eval memory b region opened-as.0 over found-over past s opened-as.1 a d q ran
+          -- and by what the run answered
+          module _
+              (a : Result RecordHeader Refusal)
+              (d : Lent)
+              (q : output_told a ≡ circuit_answer s.ctx s.clk (circuit_of s memory ptr))
+              (ran : Ran a s (circuit_of s memory ptr) ptr d b)
+            where
+              pub run_accepted : is_err a ≡ false → (output_told a ≡ eval_answer ctx clk ptr num-vars num-eval memory b) × (d ≡ eval_buffers ctx clk ptr num-vars num-eval memory b)
+              run_accepted = ends_zero ctx clk ptr num-vars num-eval memory b region opened-as.0 over found-over past s opened-as.1 a d q ran
 
-        pub run_refused : {vs cs ns : List ℕ} → is_err a ≡ true
-            → vs ≡ zeroed (2 * wires_of s) d.values → cs ≡ zeroed (wires_of s) d.counts → ns ≡ zeroed (node_cells s.num_read s.num_eval) d.nodes
-            → (output_told a ≡ eval_answer ctx clk ptr num-vars num-eval memory b) × (lent vs cs ns ≡ eval_buffers ctx clk ptr num-vars num-eval memory b)
-        run_refused = ends_otherwise ctx clk ptr num-vars num-eval memory b region opened-as.0 over found-over past s opened-as.1 a d q ran
+              pub run_refused : {vs cs ns : List ℕ} → is_err a ≡ true
+                  → vs ≡ zeroed (2 * wires_of s) d.values → cs ≡ zeroed (wires_of s) d.counts → ns ≡ zeroed (node_cells s.num_read s.num_eval) d.nodes
+                  → (output_told a ≡ eval_answer ctx clk ptr num-vars num-eval memory b) × (lent vs cs ns ≡ eval_buffers ctx clk ptr num-vars num-eval memory b)
+              run_refused = ends_otherwise ctx clk ptr num-vars num-eval memory b region opened-as.0 over found-over past s opened-as.1 a d q ran
 
 -- what a run leaves has room still
 pub room_after : (s : CircuitEvaluation) (memory : List ℕ) (ptr : ℕ) (b : Lent) (vs cs ns : List ℕ) → Prepared s memory ptr b
