@@ -1,12 +1,11 @@
-// States, headers and run lists from numbers and back.
+// States and run lists from numbers and back.
 ghost use Rattle.std.specs.Prelude.{◌≡◌, [], ◌∷◌};
-ghost use Rattle.trace.specs.Output.{header_numbers};
 ghost use Rattle.ace_c.specs.States.{state_of, six_of};
 ghost use Rattle.ace_c.specs.Lists.{list_of, threes_of};
 
 use runs::{Ace, Entry};
 use std::array;
-use trace::{CircuitEvaluation, RecordHeader};
+use trace::CircuitEvaluation;
 
 // A state's ctx, clk, num_read, num_eval, reads_done and evals_done, and its id_next.
 pub(crate) struct StateNumbers(pub(crate) [u32; 6], pub(crate) u64);
@@ -42,19 +41,6 @@ impl From<CircuitEvaluation> for StateNumbers {
         ];
         StateNumbers(six, state.id_next)
     }
-}
-
-// No `From`: neither type is of this crate, and one of its own would only be taken off the array again.
-pub(crate) fn header_numbers(header: RecordHeader) -> [u64; 5]
-    ensures { result ≡ header_numbers header }
-{
-    [
-        u64::from(header.ctx),
-        u64::from(header.clk),
-        u64::from(header.num_read),
-        u64::from(header.num_eval),
-        header.id_next,
-    ]
 }
 
 // The clk, num_read and num_eval of each entry of a run list, and its length.

@@ -6,7 +6,7 @@ ghost use Rattle.record.specs.Bytes.{write_into_answer, written_into, write_stat
 ghost use Rattle.record.specs.Reading.{read_from_answer, read_buffers};
 ghost use Rattle.ace_c.specs.States.{state_of, header_by};
 
-use crate::convert::{StateNumbers, header_numbers};
+use crate::convert::StateNumbers;
 use crate::tell::tell;
 use record::{read_from, write_into, write_state_into};
 use trace::{CircuitEvaluation, RecordHeader};
@@ -76,6 +76,6 @@ pub fn ace_read_from(
     ensures nodes_after { lent values.new counts.new nodes.new ≡ read_buffers bytes.now (lent values.old counts.old nodes.old) }
 {
     let read = read_from(bytes, values, counts, nodes);
-    *header = read.map_or(*header, header_numbers);
+    *header = read.map_or(*header, <[u64; 5]>::from);
     tell(read, place)
 }

@@ -1,4 +1,5 @@
 // The functions of `ace_c` for callers in Rust and C, to which a slice is a pointer and a length.
+// A crate of its own: no crate may use a static library, and theorems are shown of `ace_c`.
 #![tactic(auto)]
 
 pub mod circuits;

@@ -8,7 +8,7 @@ use Rattle.trace.specs.Read.{read_step}
 use Rattle.trace.specs.Eval.{eval_step}
 use Rattle.trace.specs.Output.{output_told, output_answer}
 use Rattle.trace.specs.Record.{tested_told}
-use Rattle.trace.proofs.Answers.{output_determined}
+use Rattle.trace.proofs.Answers.{output_determined, step_determined}
 use Rattle.in_place.specs.InPlace.{open_step}
 use Rattle.in_place.proofs.Surfaces.{in_place_determined}
 use Rattle.in_place.specs.contracts.new_in_place as new-in-place
@@ -74,19 +74,17 @@ output_in_place_determined = record {
 }
 
 pub through_new_determined : Determined through-new-contract.ended through-new.Learnt
-through_new_determined κs a (r, _) (s, _) e f =
-    let h = in_place_determined r.told s.told r.state s.state _ _ (same e f) in
-    λ i. (record { state = h.1 i; told = h.0 i }, _)
+through_new_determined κs a (r, _) (s, _) e f = λ i. ((step_determined r s _ _ (same e f)).0 i, _)
 
 pub through_do_read_determined : Determined through-do-read-contract.ended through-do-read.Learnt
 through_do_read_determined κs a (r, _) (s, _) e f =
-    let h = in_place_determined r.told s.told r.state s.state _ _ (same e f) in
-    λ i. (record { state = h.1 i; told = h.0 i }, (_, (_, (_, ((h.2 i).values, ((h.2 i).counts, ((h.2 i).nodes, _)))))))
+    let h = step_determined r s _ _ (same e f) in
+    λ i. (h.0 i, (_, (_, (_, ((h.1 i).values, ((h.1 i).counts, ((h.1 i).nodes, _)))))))
 
 pub through_do_eval_determined : Determined through-do-eval-contract.ended through-do-eval.Learnt
 through_do_eval_determined κs a (r, _) (s, _) e f =
-    let h = in_place_determined r.told s.told r.state s.state _ _ (same e f) in
-    λ i. (record { state = h.1 i; told = h.0 i }, (_, (_, (_, ((h.2 i).values, ((h.2 i).counts, ((h.2 i).nodes, _)))))))
+    let h = step_determined r s _ _ (same e f) in
+    λ i. (h.0 i, (_, (_, (_, ((h.1 i).values, ((h.1 i).counts, ((h.1 i).nodes, _)))))))
 
 pub through_output_value_determined : Determined through-output-value-contract.ended through-output-value.Learnt
 through_output_value_determined κs a (r, _) (s, _) e f = λ i. (output_determined r s (same e f) i, _)

@@ -4,6 +4,7 @@ use eval_circuit::eval_circuit;
 use std::io;
 use telling::answers::{Answer, Header};
 use telling::buffers::Lengths;
+use telling::gates::{ADD_5_4, MUL_1_2, MUL_5_4, SUB_3_3};
 use telling::listing::{EXACT, UNTOUCHED};
 
 #[derive(Clone, Copy)]
@@ -24,21 +25,13 @@ pub const LISTING: Call = Call {
     lent: EXACT,
 };
 
-// The listing's gates: Add of 5 and 4, Mul of 5 and 4, Sub of 3 and 2, Mul of 1 and 2.
-pub const ADD: u64 = 2305843013508661253;
-
-pub const MUL: u64 = 1152921508901814277;
-
-pub const SUB: u64 = 3221225475;
-
-pub const LAST: u64 = 1152921506754330625;
-
 pub const MEMORY: [u64; 16] = [
-    3, 0, 4, 0, ADD, MUL, SUB, LAST, 3, 0, 4, 0, ADD, MUL, SUB, LAST,
+    3, 0, 4, 0, ADD_5_4, MUL_5_4, SUB_3_3, MUL_1_2, 3, 0, 4, 0, ADD_5_4, MUL_5_4, SUB_3_3, MUL_1_2,
 ];
 
 pub fn evaluate(rt: &impl Print, case: &str, call: Call, memory: &[u64; 16]) -> io::Result<()> {
     let mut buffers = UNTOUCHED;
+    // Cut here: through a struct of three `&mut` slices the borrow checker doesn't cover the call.
     let output = eval_circuit(
         0,
         7,

@@ -150,6 +150,7 @@ fn read(rt: &impl Print, case: &str, source: &[u8], lent: Lengths) -> io::Result
         counts: [COUNT_CANARY; 4],
         nodes: [CANARY; 19],
     };
+    // Cut here: through a struct of three `&mut` slices the borrow checker doesn't cover the call.
     let header = read_from(
         source,
         &mut buffers.values[..lent.values.min(7)],

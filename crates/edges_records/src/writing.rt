@@ -1,13 +1,15 @@
 // Record writer: "21, 19, 6, 17 (a used value or node cell, or id_next, p or more), then" "writer 24".
 // Every byte of the room is told, and of what lies behind the lent part.
-use field::P;
 use record::{write_into, write_state_into};
 use refusal::Refusal;
 use std::io;
 use telling::answers::Answer;
-use telling::buffers::{Buffers, Lengths};
+use telling::buffers::{Buffers, Lengths, Lent};
 use telling::lists::{Bytes, Numbers};
-use telling::small::{BAD_COUNTS, BUFFERS, EXACT, FINISHED, HEADER, ONE_SHORT, STATES, WHOLE};
+use telling::small::{
+    BAD_COUNTS, BUFFERS, EXACT, FINISHED, FIRST_VALUE_OVER, HEADER, LAST_WIRE_OVER, NODES_TESTED,
+    ONE_SHORT, STATES, TESTED, WHOLE,
+};
 use trace::{CircuitEvaluation, RecordHeader};
 
 // Into the first `room` of 53 bytes.
@@ -30,32 +32,14 @@ fn write_over(
     rt: &impl Print,
     case: &str,
     header: RecordHeader,
-    lent: Lengths,
+    lengths: Lengths,
     buffers: Buffers<7, 4, 19>,
     room: usize,
 ) -> io::Result<()> {
+    let lent = Lent::from((&buffers, lengths));
     tell(rt, "write_into", case, room, |out| {
-        write_into(
-            header,
-            &buffers.values[..lent.values.min(7)],
-            &buffers.counts[..lent.counts.min(4)],
-            &buffers.nodes[..lent.nodes.min(19)],
-            out,
-        )
+        write_into(header, lent.values, lent.counts, lent.nodes, out)
     })
-}
-
-fn changed<F: FnOnce(&mut Buffers<7, 4, 19>)>(
-    rt: &impl Print,
-    case: &str,
-    room: usize,
-    change: F,
-) -> io::Result<()>
-    requires { F.IsAlwaysCallable change }
-{
-    let mut buffers = BUFFERS;
-    change(&mut buffers);
-    write_over(rt, case, HEADER, WHOLE, buffers, room)
 }
 
 pub fn records(rt: &impl Print) -> io::Result<()> {
@@ -81,74 +65,38 @@ pub fn records(rt: &impl Print) -> io::Result<()> {
     for &(case, lent) in ONE_SHORT {
         write_over(rt, case, HEADER, lent, BUFFERS, 52)?;
     }
-    let no_element = RecordHeader {
-        id_next: P,
-        ..HEADER
-    };
-    let short = Lengths { nodes: 17, ..EXACT };
-    write_over(rt, "6 ahead of 17", no_element, short, BUFFERS, 52)?;
-    write_over(rt, "id_next p", no_element, EXACT, BUFFERS, 52)
+    Ok(())
 }
 
 pub fn cells(rt: &impl Print) -> io::Result<()> {
-    changed(
-        rt,
-        "a used value cell is p",
-        52,
-        |buffers| buffers.values[5] = P,
-    )?;
-    changed(
-        rt,
-        "p past the used value cells passes",
-        52,
-        |buffers| buffers.values[6] = P,
-    )?;
-    changed(rt, "17 ahead of 24", 51, |buffers| buffers.values[0] = P)?;
-    changed(
-        rt,
-        "a used node cell is p",
-        52,
-        |buffers| buffers.nodes[17] = P,
-    )?;
-    changed(
-        rt,
-        "p past the used node cells passes",
-        52,
-        |buffers| buffers.nodes[18] = P,
-    )
+    for &(case, header, lent, buffers) in TESTED {
+        write_over(rt, case, header, lent, buffers, 52)?;
+    }
+    write_over(rt, "17 ahead of 24", HEADER, WHOLE, FIRST_VALUE_OVER, 51)?;
+    for &(case, header, lent, buffers) in NODES_TESTED {
+        write_over(rt, case, header, lent, buffers, 52)?;
+    }
+    Ok(())
 }
 
-fn from_state(
+fn write_state_over(
     rt: &impl Print,
     case: &str,
-    evals_done: u32,
-    id_next: u64,
-    last: u64,
-    node_cells: usize,
+    state: CircuitEvaluation,
+    lengths: Lengths,
+    buffers: Buffers<7, 4, 19>,
     room: usize,
 ) -> io::Result<()> {
-    let state = CircuitEvaluation {
-        evals_done,
-        id_next,
-        ..FINISHED
-    };
-    let mut values = BUFFERS.values;
-    values[4] = last;
+    let lent = Lent::from((&buffers, lengths));
     tell(rt, "write_state_into", case, room, |out| {
-        write_state_into(
-            state,
-            &values[..6],
-            &BUFFERS.counts[..3],
-            &BUFFERS.nodes[..node_cells.min(19)],
-            out,
-        )
+        write_state_into(state, lent.values, lent.counts, lent.nodes, out)
     })
 }
 
 pub fn from_states(rt: &impl Print) -> io::Result<()> {
-    for &(case, evals_done, id_next, last, node_cells) in STATES {
-        from_state(rt, case, evals_done, id_next, last, node_cells, 52)?;
+    for &(case, state, lent, buffers) in STATES {
+        write_state_over(rt, case, state, lent, buffers, 52)?;
     }
-    from_state(rt, "17 ahead of 24", 1, P - 1, P, 18, 51)?;
-    from_state(rt, "room one byte short", 1, P - 1, 0, 18, 51)
+    write_state_over(rt, "17 ahead of 24", FINISHED, EXACT, LAST_WIRE_OVER, 51)?;
+    write_state_over(rt, "room one byte short", FINISHED, EXACT, BUFFERS, 51)
 }

@@ -2,7 +2,7 @@
 use field::P;
 use std::io;
 use telling::answers::{Answer, Header};
-use telling::buffers::Lengths;
+use telling::buffers::{Buffers, Lengths, Lent};
 use telling::listing::{EXACT, ONE_SHORT, OPENED, UNTOUCHED};
 use trace::CircuitEvaluation;
 
@@ -62,16 +62,16 @@ fn output(
     rt: &impl Print,
     case: &str,
     state: CircuitEvaluation,
-    lent: Lengths,
+    lengths: Lengths,
     read_1: u64,
     last: [u64; 2],
 ) -> io::Result<()> {
-    let values = [3, 0, read_1, 0, 7, 0, 12, 0, 0, 0, last[0], last[1], 9, 9];
-    let output = state.output_value(
-        &values[..lent.values.min(14)],
-        &UNTOUCHED.counts[..lent.counts.min(7)],
-        &UNTOUCHED.nodes[..lent.nodes.min(52)],
-    );
+    let buffers = Buffers {
+        values: [3, 0, read_1, 0, 7, 0, 12, 0, 0, 0, last[0], last[1], 9, 9],
+        ..UNTOUCHED
+    };
+    let lent = Lent::from((&buffers, lengths));
+    let output = state.output_value(lent.values, lent.counts, lent.nodes);
     println!(rt; "output_value: {case} = {}", Answer(output.map(Header)))
 }
 

@@ -3,7 +3,7 @@
 use field::P;
 use std::io;
 use telling::answers::Answer;
-use telling::buffers::{Buffers, Lengths};
+use telling::buffers::{Buffers, Lengths, Lent};
 use telling::listing::{EXACT, ONE_SHORT, UNTOUCHED, WHOLE};
 use telling::lists::Numbers;
 use trace::RecordHeader;
@@ -49,14 +49,11 @@ fn test(
     rt: &impl Print,
     case: &str,
     header: RecordHeader,
-    lent: Lengths,
+    lengths: Lengths,
     buffers: &Buffers<14, 7, 52>,
 ) -> io::Result<()> {
-    let tested = header.test(
-        &buffers.values[..lent.values.min(14)],
-        &buffers.counts[..lent.counts.min(7)],
-        &buffers.nodes[..lent.nodes.min(52)],
-    );
+    let lent = Lent::from((buffers, lengths));
+    let tested = header.test(lent.values, lent.counts, lent.nodes);
     println!(rt; "test: {case} = {}", Answer(tested.map(|()| Numbers([]))))
 }
 

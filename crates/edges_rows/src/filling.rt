@@ -5,9 +5,12 @@ use refusal::Refusal;
 use rows::{fill, fill_state};
 use std::io;
 use telling::answers::Answer;
-use telling::buffers::{Buffers, CANARY, Lengths};
+use telling::buffers::{Buffers, CANARY, Lengths, Lent};
 use telling::lists::{Cells, Numbers};
-use telling::small::{BAD_COUNTS, BUFFERS, EXACT, FINISHED, HEADER, ONE_SHORT, STATES, WHOLE};
+use telling::small::{
+    BAD_COUNTS, BUFFERS, EXACT, FINISHED, FIRST_VALUE_OVER, HEADER, LAST_WIRE_OVER, NODES_TESTED,
+    ONE_SHORT, STATES, TESTED, WHOLE,
+};
 use trace::{CircuitEvaluation, RecordHeader};
 
 // The row that is filled first, and how many cells are lent.
@@ -19,6 +22,18 @@ const PLACES: &[(&str, usize, usize)] = &[
     ("from row 2 on", 2, 49),
     ("from row 2^60 on, 16 times which is 2^64", 1 << 60, 49),
     ("from the largest row on", usize::MAX, 49),
+];
+
+// Node cells of which one differs from the small record's.
+const NODES: &[(&str, [u64; 19])] = &[
+    (
+        "counts go by position, whatever ids the nodes hold",
+        [0, 40, 3, 0, 1, 3, 0, 4, P - 1, 0, 0, 0, 2, 3, 0, 1, 3, 0, 9],
+    ),
+    (
+        "any eval_op passes",
+        [0, 2, 3, 0, 1, 3, 0, 4, 77, 0, 0, 0, 2, 3, 0, 1, 3, 0, 9],
+    ),
 ];
 
 // Into the first `room` of these cells.
@@ -42,52 +57,26 @@ fn fill_over(
     rt: &impl Print,
     case: &str,
     header: RecordHeader,
-    lent: Lengths,
+    lengths: Lengths,
     buffers: Buffers<7, 4, 19>,
     offset: usize,
     room: usize,
 ) -> io::Result<()> {
+    let lent = Lent::from((&buffers, lengths));
     tell(rt, "fill", case, [CANARY; 49], room, |rows| {
-        fill(
-            header,
-            &buffers.values[..lent.values.min(7)],
-            &buffers.counts[..lent.counts.min(4)],
-            &buffers.nodes[..lent.nodes.min(19)],
-            offset,
-            rows,
-        )
+        fill(header, lent.values, lent.counts, lent.nodes, offset, rows)
     })
-}
-
-fn changed<F: FnOnce(&mut Buffers<7, 4, 19>)>(
-    rt: &impl Print,
-    case: &str,
-    room: usize,
-    change: F,
-) -> io::Result<()>
-    requires { F.IsAlwaysCallable change }
-{
-    let mut buffers = BUFFERS;
-    change(&mut buffers);
-    fill_over(rt, case, HEADER, WHOLE, buffers, 0, room)
 }
 
 pub fn rows_filled(rt: &impl Print) -> io::Result<()> {
     for &(case, offset, room) in PLACES {
         fill_over(rt, case, HEADER, EXACT, BUFFERS, offset, room)?;
     }
-    changed(
-        rt,
-        "counts go by position, whatever ids the nodes hold",
-        32,
-        |buffers| buffers.nodes[1] = 40,
-    )?;
-    changed(
-        rt,
-        "any eval_op passes",
-        32,
-        |buffers| buffers.nodes[8] = 77,
-    )
+    for &(case, nodes) in NODES {
+        let buffers = Buffers { nodes, ..BUFFERS };
+        fill_over(rt, case, HEADER, WHOLE, buffers, 0, 32)?;
+    }
+    Ok(())
 }
 
 // Their cells are all 0.
@@ -129,75 +118,38 @@ pub fn records_refused(rt: &impl Print) -> io::Result<()> {
     for &(case, lent) in ONE_SHORT {
         fill_over(rt, case, HEADER, lent, BUFFERS, 0, 32)?;
     }
-    let no_element = RecordHeader {
-        id_next: P,
-        ..HEADER
-    };
-    let short = Lengths { nodes: 17, ..EXACT };
-    fill_over(rt, "6 ahead of 17", no_element, short, BUFFERS, 0, 32)?;
-    fill_over(rt, "id_next p", no_element, EXACT, BUFFERS, 0, 32)
+    Ok(())
 }
 
 pub fn cells(rt: &impl Print) -> io::Result<()> {
-    changed(
-        rt,
-        "a used value cell is p",
-        32,
-        |buffers| buffers.values[5] = P,
-    )?;
-    changed(
-        rt,
-        "p past the used value cells passes",
-        32,
-        |buffers| buffers.values[6] = P,
-    )?;
-    changed(rt, "17 ahead of 14", 31, |buffers| buffers.values[0] = P)?;
-    changed(
-        rt,
-        "a used node cell is p",
-        32,
-        |buffers| buffers.nodes[17] = P,
-    )?;
-    changed(
-        rt,
-        "p past the used node cells passes",
-        32,
-        |buffers| buffers.nodes[18] = P,
-    )
+    for &(case, header, lent, buffers) in TESTED {
+        fill_over(rt, case, header, lent, buffers, 0, 32)?;
+    }
+    fill_over(rt, "17 ahead of 14", HEADER, WHOLE, FIRST_VALUE_OVER, 0, 31)?;
+    for &(case, header, lent, buffers) in NODES_TESTED {
+        fill_over(rt, case, header, lent, buffers, 0, 32)?;
+    }
+    Ok(())
 }
 
-fn from_state(
+fn fill_state_over(
     rt: &impl Print,
     case: &str,
-    evals_done: u32,
-    id_next: u64,
-    last: u64,
-    node_cells: usize,
+    state: CircuitEvaluation,
+    lengths: Lengths,
+    buffers: Buffers<7, 4, 19>,
     room: usize,
 ) -> io::Result<()> {
-    let state = CircuitEvaluation {
-        evals_done,
-        id_next,
-        ..FINISHED
-    };
-    let mut values = BUFFERS.values;
-    values[4] = last;
+    let lent = Lent::from((&buffers, lengths));
     tell(rt, "fill_state", case, [CANARY; 33], room, |rows| {
-        fill_state(
-            state,
-            &values[..6],
-            &BUFFERS.counts[..3],
-            &BUFFERS.nodes[..node_cells.min(19)],
-            0,
-            rows,
-        )
+        fill_state(state, lent.values, lent.counts, lent.nodes, 0, rows)
     })
 }
 
 pub fn from_states(rt: &impl Print) -> io::Result<()> {
-    for &(case, evals_done, id_next, last, node_cells) in STATES {
-        from_state(rt, case, evals_done, id_next, last, node_cells, 32)?;
+    for &(case, state, lent, buffers) in STATES {
+        fill_state_over(rt, case, state, lent, buffers, 32)?;
     }
-    from_state(rt, "17 ahead of 14", 1, P - 1, P, 18, 31)?;
-    from_state(rt, "room one cell short", 1, P - 1, 0, 18, 31)
+    fill_state_over(rt, "17 ahead of 14", FINISHED, EXACT, LAST_WIRE_OVER, 31)?;
+    fill_state_over(rt, "room one cell short", FINISHED, EXACT, BUFFERS, 31)
 }

@@ -4,20 +4,9 @@ use crate::steps::take;
 use field::P;
 use std::io;
 use telling::buffers::{Buffers, CANARY, Lengths};
+use telling::gates::{ADD_3_3, ADD_5_3, ADD_5_4, ADD_5_5, MUL_5_4, OPCODE_3};
 use telling::listing::{EXACT, ONE_SHORT, OPENED, UNTOUCHED};
 use trace::CircuitEvaluation;
-
-// The listing's first gate, Add of 5 and 4, and words that differ from it in an id.
-const ADD_5_4: u64 = 2305843013508661253;
-
-const ADD_5_3: u64 = 2305843012434919429;
-
-const ADD_3_3: u64 = 2305843012434919427;
-
-const ADD_5_5: u64 = 2305843014582403077;
-
-// The first word with opcode 3.
-const OPCODE_3: u64 = 3458764513820540928;
 
 // After the listing's READ step.
 const READ: CircuitEvaluation = CircuitEvaluation {
@@ -31,7 +20,7 @@ const STORED: [u64; 5] = [3, 0, 4, 0, CANARY];
 
 const OPERATIONS: &[(&str, u64, u64)] = &[
     ("Add of 5 and 4", 4, ADD_5_4),
-    ("Mul of 5 and 4", 4, 1152921508901814277),
+    ("Mul of 5 and 4", 4, MUL_5_4),
     ("Sub of 5 and 4", 4, 4294967301),
     ("Sub of 4 and 5", 4, 5368709124),
     ("Add of 5 and 5 counts the wire twice", 4, ADD_5_5),

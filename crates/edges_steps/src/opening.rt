@@ -3,7 +3,7 @@
 use crate::steps::After;
 use std::io;
 use telling::answers::Answer;
-use telling::buffers::Lengths;
+use telling::buffers::{Lengths, Lent};
 use telling::listing::{EXACT, ONE_SHORT, UNTOUCHED, WHOLE};
 use telling::lists::Numbers;
 use trace::CircuitEvaluation;
@@ -50,16 +50,17 @@ fn open(
     case: &str,
     num_read: u32,
     num_eval: u32,
-    lent: Lengths,
+    lengths: Lengths,
 ) -> io::Result<()> {
+    let lent = Lent::from((&UNTOUCHED, lengths));
     let opened = CircuitEvaluation::new(
         0,
         7,
         num_read,
         num_eval,
-        &UNTOUCHED.values[..lent.values.min(14)],
-        &UNTOUCHED.counts[..lent.counts.min(7)],
-        &UNTOUCHED.nodes[..lent.nodes.min(52)],
+        lent.values,
+        lent.counts,
+        lent.nodes,
     );
     println!(rt; "new: {case} = {}", Answer(opened.map(After)))
 }

@@ -27,6 +27,7 @@ pub fn take<
 ) -> io::Result<()>
     requires { F.IsAlwaysCallable step }
 {
+    // Cut here: through a struct of three `&mut` slices the borrow checker doesn't cover the call.
     let stepped = step(
         &mut buffers.values[..lent.values.min(14)],
         &mut buffers.counts[..lent.counts.min(7)],

@@ -168,7 +168,7 @@ module _ (s : CircuitEvaluation) (memory : List ℕ) (ptr : ℕ) (b : Lent) (ok 
       number = 8;
       left = here;
       stopped = gate_undecoded c k word_below o;
-      ends = sym (eval_undecoded state at (word c k) here tests 8 0 (sym (not_instruction (word c k) word_below o)));
+      ends = sym (eval_undecoded state at (word c k) here tests refl (sym (not_instruction (word c k) word_below o)));
       past = here-past;
     }
 
@@ -177,7 +177,7 @@ module _ (s : CircuitEvaluation) (memory : List ℕ) (ptr : ℕ) (b : Lent) (ok 
       decoded = sym (instruction (word c k) word_below o)
 
       operands-first : operands_step state at left right (opcode (word c k)) here ≡ eval_step state at (word c k) here
-      operands-first = eval_operands state at (word c k) here tests left right (opcode (word c k)) decoded
+      operands-first = eval_operands state at (word c k) here tests refl decoded
 
       no-left : left_made c k ≡ false → Stop c s ptr at k b
       no-left l = record {

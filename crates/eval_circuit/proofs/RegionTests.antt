@@ -1,8 +1,8 @@
 -- What the tests of a region, 1 to 5 and 7, come to, and what they say of the numbers.
 -- Assumes nothing.
-use mathlib.Core.Path.{◌≡◌, refl}
+use mathlib.Core.Path.{◌≡◌, refl, sym}
 use mathlib.Core.Bool.{Bool, true, false, ◌||◌}
-use mathlib.Core.List.{List}
+use mathlib.Core.List.{List, []}
 use mathlib.Core.Logic.{inl, inr}
 use Prim.Native.Nat.{ℕ, ◌+◌, ◌%◌, ◌≤◌, ◌<◌}
 use native.Mathlib.Omega.{arith}
@@ -120,6 +120,9 @@ region_of ptr v e cells t vs q =
       },
       g.1,
     )
+
+pub region_tested : (ptr num-vars num-eval cells : ℕ) → accepted [] ≡ of_region ptr num-vars num-eval cells (accepted []) → Region ptr num-vars num-eval cells
+region_tested ptr v e cells t = (region_of ptr v e cells (accepted []) [] (sym t)).0
 
 pub region_pass : (ptr num-vars num-eval cells : ℕ) (t : Told) → Region ptr num-vars num-eval cells → t ≡ of_region ptr num-vars num-eval cells t
 region_pass ptr v e cells t r =

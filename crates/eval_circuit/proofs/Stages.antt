@@ -191,4 +191,4 @@ module _ (s : CircuitEvaluation) (memory : List ℕ) (ptr : ℕ) (b : Lent) (ok 
     read_next =
         let e : wires i 0 + 2 ≡ wires (i + 1) 0 = omega arith in
         let id = sym (next_later (wires_of s) (wires i 0) 2 ok.few (omega arith) (omega arith) ∙ ap (λ (k : ℕ). next_id (wires_of s) k) e) in
-        sym (read_accepted (after s i 0) at (word_at memory at) (stage c ptr i 0 b) read-passes _ _ id made-next)
+        sym (read_accepted (after s i 0) at (word_at memory at) (stage c ptr i 0 b) read-passes refl id made-next)

@@ -4,7 +4,7 @@ use mathlib.Core.Path.{◌≡◌, refl, sym, ap, ap₂, ◌∙◌, subst}
 use mathlib.Core.Bool.{Bool, true, false, cond, ◌||◌}
 use mathlib.Core.List.{List, [], ◌++◌}
 use mathlib.Core.Logic.{⊎_elim}
-use Prim.Native.Nat.{ℕ, ◌+◌, ◌-◌, ◌*◌, ◌/◌, ◌%◌, ◌≤◌, ◌<◌}
+use Prim.Native.Nat.{ℕ, ◌+◌, ◌-◌, ◌*◌, ◌/◌, ◌%◌, ◌^◌, ◌≤◌, ◌<◌}
 use native.Mathlib.Omega.{arith}
 use lib.Dec.{ltb, eqb}
 use lib.ListN.{length, get_or, take, drop, replicate}
@@ -31,7 +31,7 @@ use Rattle.field.specs.Lists.{each}
 use Rattle.eval_circuit.specs.Inside.{circuit_of, after, stage, Past, Prepared, Ran}
 use Rattle.eval_circuit.proofs.Gates.{First, Passed, gate_refused, gates_refused}
 use Rattle.eval_circuit.proofs.RegionCells.{memory_most, region_length, region_at, cells_pass}
-use Rattle.eval_circuit.proofs.RegionTests.{Region, region_of, region_pass}
+use Rattle.eval_circuit.proofs.RegionTests.{Region, region_tested, region_pass}
 
 -- a refusal from 1 to 5 does not ask what comes after
 five : (a b d f g : Bool) (u : Told) (vs : List ℕ) (n k : ℕ)
@@ -98,7 +98,7 @@ module _ (ctx clk ptr num-vars num-eval : ℕ) (memory : List ℕ) (b : Lent) wh
         counts_pass most_wires reads num-eval _ (record { few = omega arith; reads = omega arith; evals = r.some_evals })
 
     -- opening refuses only a short buffer
-    pub stops_short : (n k : ℕ) → refused n k ≡ open_answer ctx clk reads num-eval b → (refused n k ≡ answer) × (b ≡ buffers)
+    stops_short : (n k : ℕ) → refused n k ≡ open_answer ctx clk reads num-eval b → (refused n k ≡ answer) × (b ≡ buffers)
     stops_short n k e = (e ∙ opens ∙ rw short told, kept 6 0 (omega arith) told)
       where
         short : fit ≡ false
@@ -111,7 +111,7 @@ module _ (ctx clk ptr num-vars num-eval : ℕ) (memory : List ℕ) (b : Lent) wh
         told : refused 6 0 ≡ answer
         told = sym (rw short at (sym past-region))
 
-    pub opened_is : (s : CircuitEvaluation) → accepted (numbers_of s) ≡ open_answer ctx clk reads num-eval b → (fit ≡ true) × (s ≡ opened ctx clk reads num-eval)
+    opened_is : (s : CircuitEvaluation) → accepted (numbers_of s) ≡ open_answer ctx clk reads num-eval b → (fit ≡ true) × (s ≡ opened ctx clk reads num-eval)
     opened_is s e = by-fit fit (e ∙ opens)
       where
         by-fit : (x : Bool) → accepted (numbers_of s) ≡ cond x (accepted (numbers_of (opened ctx clk reads num-eval))) (refused 6 0) → (x ≡ true) × (s ≡ opened ctx clk reads num-eval)
@@ -128,7 +128,7 @@ module _ (ctx clk ptr num-vars num-eval : ℕ) (memory : List ℕ) (b : Lent) wh
       past_room : of_cells ptr c.cells (circuit_answer ctx clk c) ≡ answer
       past_room = rw f at past-region
 
-      pub stops_over : (over : ℕ) → over ≡ ptr + first_over c.cells → over < ptr + region_cells num-vars num-eval → (refused 7 over ≡ answer) × (b ≡ buffers)
+      stops_over : (over : ℕ) → over ≡ ptr + first_over c.cells → over < ptr + region_cells num-vars num-eval → (refused 7 over ≡ answer) × (b ≡ buffers)
       stops_over over e h = (told, kept 7 over (omega arith) told)
         where
           told : refused 7 over ≡ answer
@@ -153,7 +153,7 @@ module _ (ctx clk ptr num-vars num-eval : ℕ) (memory : List ℕ) (b : Lent) wh
           circuit-is : circuit_of s memory ptr ≡ c
           circuit-is = ap (λ (t : CircuitEvaluation). circuit_of t memory ptr) o ∙ ap (λ (n : ℕ). circuit_at memory ptr n num-eval) two-reads
 
-          pub prepared : Prepared s memory ptr b × (s ≡ after s 0 0)
+          prepared : Prepared s memory ptr b × (s ≡ after s 0 0)
           prepared =
               let g = room_of reads num-eval _ _ _ f in
               let h₀ = r.few in
@@ -192,7 +192,7 @@ module _ (ctx clk ptr num-vars num-eval : ℕ) (memory : List ℕ) (b : Lent) wh
               (each (read_cells c ptr) reads ++ each (eval_cells c ptr) num-eval ++ drop (node_cells reads num-eval) b.nodes))
               (ap (λ (n : ℕ). n + num-eval) two-reads)
 
-          pub ends_accepted : (vs : List ℕ) (d : Lent) → accepted vs ≡ circuit_answer s.ctx s.clk (circuit_of s memory ptr)
+          ends_accepted : (vs : List ℕ) (d : Lent) → accepted vs ≡ circuit_answer s.ctx s.clk (circuit_of s memory ptr)
               → d ≡ stage (circuit_of s memory ptr) ptr s.num_read s.num_eval b → (accepted vs ≡ answer) × (d ≡ buffers)
           unfolding eval_buffers
           ends_accepted vs d q e =
@@ -218,7 +218,7 @@ module _ (ctx clk ptr num-vars num-eval : ℕ) (memory : List ℕ) (b : Lent) wh
           unfolding eval_buffers
           cleared-is n k l t = rw (← t, lt-leb n 7 l)
 
-          pub ends_refused : (n k : ℕ) (d : Lent) {vs cs ns : List ℕ} → refused n k ≡ circuit_answer s.ctx s.clk (circuit_of s memory ptr)
+          ends_refused : (n k : ℕ) (d : Lent) {vs cs ns : List ℕ} → refused n k ≡ circuit_answer s.ctx s.clk (circuit_of s memory ptr)
               → Past (circuit_of s memory ptr) (node_cells s.num_read s.num_eval) d b
               → vs ≡ zeroed (2 * wires_of s) d.values → cs ≡ zeroed (wires_of s) d.counts → ns ≡ zeroed (node_cells s.num_read s.num_eval) d.nodes
               → (refused n k ≡ answer) × (lent vs cs ns ≡ buffers)
@@ -243,7 +243,7 @@ module _ (ctx clk ptr num-vars num-eval : ℕ) (memory : List ℕ) (b : Lent) wh
 
           -- by what the run of steps answered
           module _ (a : Result RecordHeader Refusal) (d : Lent) (q : output_told a ≡ circuit_answer s.ctx s.clk (circuit_of s memory ptr)) (ran : Ran a s (circuit_of s memory ptr) ptr d b) where
-            pub ends_zero : is_err a ≡ false → (output_told a ≡ answer) × (d ≡ buffers)
+            ends_zero : is_err a ≡ false → (output_told a ≡ answer) × (d ≡ buffers)
             ends_zero = by a q ran
               where
                 by : (x : Result RecordHeader Refusal) → output_told x ≡ circuit_answer s.ctx s.clk (circuit_of s memory ptr) → Ran x s (circuit_of s memory ptr) ptr d b
@@ -251,7 +251,7 @@ module _ (ctx clk ptr num-vars num-eval : ℕ) (memory : List ℕ) (b : Lent) wh
                 by (Ok h) i l z = ends_accepted _ d i l
                 by (Err e) i l z = true_not_false z
 
-            pub ends_otherwise : {vs cs ns : List ℕ} → is_err a ≡ true
+            ends_otherwise : {vs cs ns : List ℕ} → is_err a ≡ true
                 → vs ≡ zeroed (2 * wires_of s) d.values → cs ≡ zeroed (wires_of s) d.counts → ns ≡ zeroed (node_cells s.num_read s.num_eval) d.nodes
                 → (output_told a ≡ answer) × (lent vs cs ns ≡ buffers)
             ends_otherwise {vs = vs} {cs = cs} {ns = ns} = by a q ran
@@ -270,23 +270,61 @@ over_is memory ptr v e end over o q =
     let l : end - ptr ≡ region_cells v e = omega arith in
     o ∙ ap (λ (n : ℕ). ptr + first_over (take n (drop ptr memory))) l
 
--- what is known of a circuit once its region has been tested, it has been opened and its cells have been looked at
-pub record Looked (ctx clk ptr num-vars num-eval : ℕ) (memory : List ℕ) (b : Lent) (s : CircuitEvaluation) (over : ℕ) : Type 0 where
-  pub region : Region ptr num-vars num-eval (memory_cells memory)
-  pub fit : room (num-vars / 2) num-eval (length b.values) (length b.counts) (length b.nodes) ≡ true
-  pub state : s ≡ opened ctx clk (num-vars / 2) num-eval
-  pub found : over ≡ ptr + first_over (circuit_at memory ptr num-vars num-eval).cells
+-- a region that was tested ends in the memory that counts
+pub region_end : (ptr num-vars num-eval : ℕ) (memory : List ℕ) → accepted [] ≡ of_region ptr num-vars num-eval (memory_cells memory) (accepted []) → ptr + region_cells num-vars num-eval ≤ 2 ^ 32
+region_end ptr v e memory t = (memory_most memory _ (region_tested ptr v e _ t).in_memory).1
 
-pub looked : (ctx clk ptr num-vars num-eval : ℕ) (memory : List ℕ) (b : Lent) (s : CircuitEvaluation) (end over : ℕ)
-    → accepted [] ≡ of_region ptr num-vars num-eval (memory_cells memory) (accepted [])
-    → accepted (numbers_of s) ≡ open_answer ctx clk (num-vars / 2) num-eval b
-    → over ≡ ptr + first_over (take (end - ptr) (drop ptr memory))
-    → end ≡ ptr + region_cells num-vars num-eval
-    → Looked ctx clk ptr num-vars num-eval memory b s over
-looked ctx clk ptr v e memory b s end over t o f q =
-    let r = (region_of ptr v e (memory_cells memory) (accepted []) [] (sym t)).0 in
-    let i = opened_is ctx clk ptr v e memory b r s o in
-    record { region = r; fit = i.0; state = i.1; found = over_is memory ptr v e end over f q }
+module _
+    (ctx clk ptr num-vars num-eval : ℕ)
+    (memory : List ℕ)
+    (b : Lent)
+    (tested : accepted [] ≡ of_region ptr num-vars num-eval (memory_cells memory) (accepted []))
+  where
+    region : Region ptr num-vars num-eval (memory_cells memory)
+    region = region_tested ptr num-vars num-eval (memory_cells memory) tested
+
+    pub short_refused : {n k : ℕ} → refused n k ≡ open_answer ctx clk (num-vars / 2) num-eval b
+        → (refused n k ≡ eval_answer ctx clk ptr num-vars num-eval memory b) × (b ≡ eval_buffers ctx clk ptr num-vars num-eval memory b)
+    short_refused e = stops_short ctx clk ptr num-vars num-eval memory b region _ _ e
+
+    -- once the circuit has been opened and its cells have been looked at
+    module _
+        (s : CircuitEvaluation)
+        (end over : ℕ)
+        (opening : accepted (numbers_of s) ≡ open_answer ctx clk (num-vars / 2) num-eval b)
+        (look : over ≡ ptr + first_over (take (end - ptr) (drop ptr memory)))
+        (at_end : end ≡ ptr + region_cells num-vars num-eval)
+      where
+        opened-as : (room (num-vars / 2) num-eval (length b.values) (length b.counts) (length b.nodes) ≡ true) × (s ≡ opened ctx clk (num-vars / 2) num-eval)
+        opened-as = opened_is ctx clk ptr num-vars num-eval memory b region s opening
+
+        found-over : over ≡ ptr + first_over (circuit_at memory ptr num-vars num-eval).cells
+        found-over = over_is memory ptr num-vars num-eval end over look at_end
+
+        pub over_refused : over < end → (refused 7 over ≡ eval_answer ctx clk ptr num-vars num-eval memory b) × (b ≡ eval_buffers ctx clk ptr num-vars num-eval memory b)
+        over_refused h = stops_over ctx clk ptr num-vars num-eval memory b region opened-as.0 over found-over (omega arith)
+
+        module _ (none : end ≤ over) where
+          past : ptr + region_cells num-vars num-eval ≤ over
+          past = omega arith
+
+          pub run_prepared : Prepared s memory ptr b × (s ≡ after s 0 0)
+          run_prepared = prepared ctx clk ptr num-vars num-eval memory b region opened-as.0 over found-over past s opened-as.1
+
+          -- and by what the run answered
+          module _
+              (a : Result RecordHeader Refusal)
+              (d : Lent)
+              (q : output_told a ≡ circuit_answer s.ctx s.clk (circuit_of s memory ptr))
+              (ran : Ran a s (circuit_of s memory ptr) ptr d b)
+            where
+              pub run_accepted : is_err a ≡ false → (output_told a ≡ eval_answer ctx clk ptr num-vars num-eval memory b) × (d ≡ eval_buffers ctx clk ptr num-vars num-eval memory b)
+              run_accepted = ends_zero ctx clk ptr num-vars num-eval memory b region opened-as.0 over found-over past s opened-as.1 a d q ran
+
+              pub run_refused : {vs cs ns : List ℕ} → is_err a ≡ true
+                  → vs ≡ zeroed (2 * wires_of s) d.values → cs ≡ zeroed (wires_of s) d.counts → ns ≡ zeroed (node_cells s.num_read s.num_eval) d.nodes
+                  → (output_told a ≡ eval_answer ctx clk ptr num-vars num-eval memory b) × (lent vs cs ns ≡ eval_buffers ctx clk ptr num-vars num-eval memory b)
+              run_refused = ends_otherwise ctx clk ptr num-vars num-eval memory b region opened-as.0 over found-over past s opened-as.1 a d q ran
 
 -- what a run leaves has room still
 pub room_after : (s : CircuitEvaluation) (memory : List ℕ) (ptr : ℕ) (b : Lent) (vs cs ns : List ℕ) → Prepared s memory ptr b

@@ -21,6 +21,9 @@ fn word_at(memory: &[u64], at: usize) -> [[u64; 2]; 2]
     ]
 }
 
+// Two functions for the steps of both kinds: a step given as a closure would need its own law for
+// what it leaves, and two of them would be no shorter. `Prepared` is no invariant of a type, since it
+// speaks of state, memory and lent buffers at once, and each step changes two of them.
 fn do_reads(
     state: CircuitEvaluation,
     memory: &[u64],

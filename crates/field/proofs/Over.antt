@@ -9,7 +9,8 @@ use Rattle.refusal.specs.declared.Refusal.{Refusal}
 use Rattle.refusal.proofs.Passing.{stops, passes}
 use Rattle.std.specs.Result.{IsErr, IsErrAnd}
 use Rattle.field.specs.Field.{p, first_over}
-use Rattle.field.specs.Answer.{of_elements}
+use Rattle.field.specs.Answer.{of_elements, felt_answer, cells_of, quad_answer}
+use Rattle.field.specs.Pair.{Pair, pair, cells}
 use Rattle.field.proofs.Cases.{below?}
 use Rattle.refusal.proofs.Tellings.{clash, same_values}
 
@@ -86,6 +87,14 @@ elements_same xs vs ws is =
 -- what is made of numbers that are elements
 pub elements_passed : (make : List ℕ → List ℕ) (xs vs ws us : List ℕ) → accepted vs ≡ of_elements xs (accepted ws) → us ≡ make vs → accepted us ≡ of_elements xs (accepted (make ws))
 elements_passed make xs vs ws us is e = ap accepted (e ∙ ap make (elements_same xs vs ws is)) ∙ passes vs _ _ is ∙ else_elements xs ws _
+
+-- of two elements, and of two pairs of elements
+pub felts_passed : (f : ℕ → ℕ → ℕ) (a b v x y : ℕ) (vs : List ℕ) → accepted vs ≡ of_elements (a ∷ b ∷ []) (accepted (a ∷ b ∷ [])) → v ≡ f (get_or vs 0 x) (get_or vs 1 y) → accepted (v ∷ []) ≡ felt_answer f a b
+felts_passed f a b v x y vs is e = elements_passed (λ xs. f (get_or xs 0 x) (get_or xs 1 y) ∷ []) _ _ _ _ is (ap (λ (w : ℕ). w ∷ []) e)
+
+pub pairs_passed : (f : Pair → Pair → Pair) (a b us : List ℕ) (h i j k : ℕ) (vs : List ℕ) → accepted vs ≡ of_elements (cells_of a b) (accepted (cells_of a b)) → us ≡ cells (f (pair (get_or vs 0 h) (get_or vs 1 i)) (pair (get_or vs 2 j) (get_or vs 3 k))) → accepted us ≡ quad_answer f a b
+pairs_passed f a b us h i j k vs is e =
+    elements_passed (λ xs. cells (f (pair (get_or xs 0 h) (get_or xs 1 i)) (pair (get_or xs 2 j) (get_or xs 3 k)))) _ _ _ _ is e
 
 -- numbers of which nothing is refused are elements
 pub elements_of : (xs vs : List ℕ) (t : Told) → of_elements xs t ≡ accepted vs → (k : ℕ) → k < length xs → get_or xs k 0 < p

@@ -1,7 +1,7 @@
 -- Remainders under sums and products.
 -- Assumes nothing.
-use Rattle.std.proofs.Common.{◌≡◌, ℕ, ◌+◌, ◌*◌, ◌/◌, ◌%◌, ◌<◌, sym, ap, ap₂, ◌∙◌, mul_assoc, mul_comm, div-add-mod', mul-add, arith}
-use native.Mathlib.Nat.{mul-add-mod_self_right, mod-add-mod, add-mod}
+use Rattle.std.proofs.Common.{◌≡◌, ℕ, ◌+◌, ◌*◌, ◌/◌, ◌%◌, ◌<◌, sym, ap, ◌∙◌, mul_assoc, mul_comm, div-add-mod', mul-add, arith}
+use native.Mathlib.Nat.{mul-add-mod_self_right, add-mod}
 use Rattle.field.specs.Field.{p}
 
 pub mul_mod_mod : (a b m : ℕ) → a * (b % m) % m ≡ a * b % m

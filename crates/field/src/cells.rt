@@ -15,6 +15,7 @@ pub fn first_over(cells: &[u64], start: usize, end: usize) -> usize
     ensures { result ≡ start + first_over (take (end - start) (drop start cells.now)) }
 {
     let stop = end.min(cells.len());
+    // By index: `position` counts from start, in a slice that a start past the end does not have.
     for at in start..stop {
         if P <= cells[at] {
             return at;
@@ -34,12 +35,13 @@ pub fn test_elements(numbers: &[u64]) -> Result<(), Refusal>
     Ok(())
 }
 
-// The numbers as elements, where they are.
+// Numbers as elements, or the refusal of the first that is none.
 pub(crate) fn elements<const N: usize>(numbers: [u64; N]) -> Result<[Felt; N], Refusal>
     ensures { told (λ felts. felts) result ≡ of_elements numbers.entry (accepted numbers.entry) }
 {
     test_elements(&numbers)?;
     let mut felts = [Felt { value: 0 }; N];
+    // By index: `map` asks that its iterator fits in memory; `from_fn`'s closure takes a requires and an ensures of its own, and `returns` did not close.
     for at in 0..N {
         felts[at] = Felt { value: numbers[at] };
     }

@@ -6,6 +6,7 @@ ghost use Rattle.field.specs.Answer.{felt_told, felt_answer};
 use crate::cells::elements;
 use refusal::Refusal;
 
+// One function over the operation would take a closure, and its law, to save one line of two.
 pub fn add(a: u64, b: u64) -> Result<u64, Refusal>
     ensures { felt_told result ≡ felt_answer add_f a b }
 {

@@ -49,13 +49,8 @@ impl Felt {
         ensures { result ≡ (self * 2 ^ 32 + digit) % p }
     {
         let (quotient, rest) = (self.value / P_HI, self.value % P_HI);
-        let brought = Felt {
-            value: rest * BASE + digit,
-        };
-        brought
-            - Felt {
-                value: quotient * P_LO,
-            }
+        let (brought, taken) = (rest * BASE + digit, quotient * P_LO);
+        Felt { value: brought } - Felt { value: taken }
     }
 }
 

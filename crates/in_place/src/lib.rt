@@ -15,13 +15,6 @@ ghost use Rattle.in_place.specs.InPlace.{open_step};
 use refusal::Refusal;
 use trace::{CircuitEvaluation, RecordHeader, RefusedStep};
 
-// The state after a call, and what the call tells.
-#[derive(Clone, Copy, Debug, PartialEq, Eq)]
-pub struct Stepped {
-    pub state: CircuitEvaluation,
-    pub told: Result<(), Refusal>,
-}
-
 // A refused opening leaves the state as it was.
 pub fn new_in_place(
     state: &mut CircuitEvaluation,

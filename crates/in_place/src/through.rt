@@ -1,15 +1,15 @@
 // From a state by value to the call in place and back, for callers that hold the state by value.
 ghost use Rattle.std.specs.Prelude.{◌≡◌};
-ghost use Rattle.trace.specs.Outcome.{lent, outcome};
+ghost use Rattle.trace.specs.Outcome.{Lent, lent, outcome, step_outcome};
 ghost use Rattle.trace.specs.Read.{read_step};
 ghost use Rattle.trace.specs.Eval.{eval_step};
 ghost use Rattle.trace.specs.Output.{output_told, output_answer};
 ghost use Rattle.trace.specs.Record.{tested_told};
 ghost use Rattle.in_place.specs.InPlace.{open_step};
 
-use crate::{Stepped, eval_in_place, new_in_place, output_in_place, read_in_place};
+use crate::{eval_in_place, new_in_place, output_in_place, read_in_place};
 use refusal::Refusal;
-use trace::{CircuitEvaluation, RecordHeader};
+use trace::{CircuitEvaluation, RecordHeader, RefusedStep};
 
 pub fn new(
     mut state: CircuitEvaluation,
@@ -20,13 +20,13 @@ pub fn new(
     values: &[u64],
     counts: &[u32],
     nodes: &[u64],
-) -> Stepped
-    ensures { outcome (tested_told result.told) result.state (lent values.now counts.now nodes.now) ≡ open_step state ctx clk num_read num_eval (lent values.now counts.now nodes.now) }
+) -> Result<CircuitEvaluation, RefusedStep>
+    ensures { step_outcome result (lent values.now counts.now nodes.now) ≡ open_step state ctx clk num_read num_eval (lent values.now counts.now nodes.now) }
 {
     let told = new_in_place(
         &mut state, ctx, clk, num_read, num_eval, values, counts, nodes,
     );
-    Stepped { state, told }
+    stepped(state, told)
 }
 
 pub fn do_read(
@@ -36,11 +36,11 @@ pub fn do_read(
     values: &mut [u64],
     counts: &mut [u32],
     nodes: &mut [u64],
-) -> Stepped
-    ensures { outcome (tested_told result.told) result.state (lent values.new counts.new nodes.new) ≡ read_step state ptr word (lent values.old counts.old nodes.old) }
+) -> Result<CircuitEvaluation, RefusedStep>
+    ensures { step_outcome result (lent values.new counts.new nodes.new) ≡ read_step state ptr word (lent values.old counts.old nodes.old) }
 {
     let told = read_in_place(&mut state, ptr, word, values, counts, nodes);
-    Stepped { state, told }
+    stepped(state, told)
 }
 
 pub fn do_eval(
@@ -50,11 +50,11 @@ pub fn do_eval(
     values: &mut [u64],
     counts: &mut [u32],
     nodes: &mut [u64],
-) -> Stepped
-    ensures { outcome (tested_told result.told) result.state (lent values.new counts.new nodes.new) ≡ eval_step state ptr instruction (lent values.old counts.old nodes.old) }
+) -> Result<CircuitEvaluation, RefusedStep>
+    ensures { step_outcome result (lent values.new counts.new nodes.new) ≡ eval_step state ptr instruction (lent values.old counts.old nodes.old) }
 {
     let told = eval_in_place(&mut state, ptr, instruction, values, counts, nodes);
-    Stepped { state, told }
+    stepped(state, told)
 }
 
 pub fn output_value(
@@ -66,4 +66,17 @@ pub fn output_value(
     ensures { output_told result ≡ output_answer state (lent values.now counts.now nodes.now) }
 {
     output_in_place(&state, values, counts, nodes)
+}
+
+// What a call in place tells, with the state that it left.
+fn stepped(
+    state: CircuitEvaluation,
+    told: Result<(), Refusal>,
+) -> Result<CircuitEvaluation, RefusedStep>
+    ensures { (b : Lent) → step_outcome result b ≡ outcome (tested_told told) state b }
+{
+    match told {
+        Ok(()) => Ok(state),
+        Err(refusal) => Err(RefusedStep { state, refusal }),
+    }
 }

@@ -3,7 +3,7 @@
 use Prim.Native.Nat.{ℕ, suc, ◌+◌, ◌-◌, ◌*◌, ◌^◌, ◌≤◌, ◌<◌}
 use mathlib.Core.Path.{◌≡◌, refl, sym, ap, ap₂, ◌∙◌}
 use mathlib.Core.Logic.{⊎_elim}
-use mathlib.Core.Bool.{true, false}
+use mathlib.Core.Bool.{Bool, true, false}
 use mathlib.Core.List.{List, ◌∷◌}
 use native.Mathlib.Nat.{add-mul, mul_comm, mul_assoc, mul-le-mul_right}
 use native.Mathlib.Numerals.{add-one}
@@ -76,9 +76,6 @@ pub record Passed (t : List ℕ) (value scale n b : ℕ) : Type 0 where
   pub byte : b < 256
   pub good : ill_formed n b ≡ false
 
-pub passed : {t : List ℕ} {value scale n b : ℕ} → Reading t value scale n → drop n t ≡ b ∷ drop (n + 1) t → b < 256 → ill_formed n b ≡ false → Passed t value scale n b
-passed r h k e = record { reading = r; next = h; byte = k; good = e }
-
 module _ {t : List ℕ} {value scale n b : ℕ} (p : Passed t value scale n b) where
   well : WellFormed n b
   well = in_good_form n b p.good
@@ -130,6 +127,10 @@ next_byte s at i h l =
     ∙ ap (λ (k : ℕ). drop k s) here
     ∙ drop-cons s i 0 l
     ∙ ap (λ (r : List ℕ). get_or s i 0 ∷ r) (ap (λ (k : ℕ). drop k s) next ∙ sym (drop-drop (i - at + 1) at s))
+
+pub byte_passed : (s : List ℕ) (at i : ℕ) {value scale : ℕ} {bad : Bool} → Reading (drop at s) value scale (i - at) → at ≤ i → i < length s → get_or s i 0 < 256
+    → bad ≡ ill_formed (i - at) (get_or s i 0) → bad ≡ false → Passed (drop at s) value scale (i - at) (get_or s i 0)
+byte_passed s at i r h l k e is = record { reading = r; next = next_byte s at i h l; byte = k; good = sym e ∙ is }
 
 pub answer_from : (s : List ℕ) (at : ℕ) {g : Found} → g ≡ find_from 0 (drop at s) → found_at at g ≡ read_answer s at
 unfolding read_answer

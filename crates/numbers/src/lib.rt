@@ -8,6 +8,9 @@ ghost use Rattle.numbers.specs.Answer.{write_told, write_answer, written, read_t
 
 use refusal::Refusal;
 
+// The bound of a field of 32 bits.
+pub const U32_BOUND: u64 = 1 << 32;
+
 // "A number's byte length comes from its leading zeros."
 pub fn width(v: u64) -> usize
     ensures { result ≡ width_of v }

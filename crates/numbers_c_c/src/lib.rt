@@ -1,4 +1,5 @@
 // The functions of `numbers_c` for callers in Rust and C, to which a slice is a pointer and a length.
+// A crate of its own: no crate may use a static library, and theorems are shown of `numbers_c`.
 #![tactic(auto)]
 
 ghost use Rattle.std.specs.Prelude.{◌≡◌};

@@ -7,12 +7,9 @@ ghost use Rattle.program.specs.Input.{cells_in, cells_at, memory_in, most_cells,
 ghost use Rattle.program.specs.Inside.{head_numbers};
 
 use crate::MOST_CELLS;
-use numbers::{read, read_below};
+use numbers::{U32_BOUND, read, read_below};
 use refusal::Refusal;
 use trace::MAX_EVAL_CIRCUIT_WIRES;
-
-// "ctx and clk below 2^32 (else 17)".
-const U32_BOUND: u64 = 1 << 32;
 
 // The most wires that the program has room for.
 const MOST_WIRES: u64 = 128;
@@ -40,7 +37,7 @@ fn read_numbers(input: &[u8], at: usize, cells: &mut [u64]) -> Result<usize, Ref
     Ok(next)
 }
 
-// It answers the place after the head too.
+// "ctx and clk below 2^32 (else 17)". It answers the place after the head too.
 fn read_head(input: &[u8]) -> Result<(Head, usize), Refusal>
     ensures result_value { told (λ read. 0 ∷ read.1 ∷ []) result ≡ head_answer input.now }
     ensures head { IfOk result (λ read. head_numbers read.0 ≡ numbers_from 6 input.now 0) }

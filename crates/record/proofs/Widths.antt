@@ -6,7 +6,7 @@ use mathlib.Core.Logic.{⊎_elim}
 use Prim.Native.Nat.{ℕ, zero, suc, ◌+◌, ◌*◌, ◌≤◌, ◌<◌}
 use native.Mathlib.Numerals.{add-one}
 use native.Mathlib.Omega.{arith}
-use lib.ListN.{length, get_or, take, drop, length-append, take-append-drop}
+use lib.ListN.{length, get_or, take, drop, length-append, length-take, take-append-drop}
 use Rattle.std.specs.List.{sum_by}
 use Rattle.std.proofs.lemmas.List.{take_more}
 use Rattle.std.proofs.lemmas.List.Sums.{sum_by-cons}
@@ -90,3 +90,7 @@ module _ (values counts : List ℕ) where
       (λ (l : k < suc n). let i = wires-within k n (omega arith) in omega (arith, wires_taken_next n, ap wires_taken (add-one n)))
       (λ (l : suc n ≤ k). let e : k ≡ suc n = omega arith in omega (arith, ap wires_taken e))
       (below? k (suc n))
+
+-- wires that are handed as the first n alone
+pub handed_most : (values counts : List ℕ) (n : ℕ) → taken (each (wire_numbers (take (2 * n) values) (take n counts)) (length (take n counts))) ≤ 30 * n
+handed_most values counts n = omega (arith, wires_most (take (2 * n) values) (take n counts) (length (take n counts)), length-take n counts)

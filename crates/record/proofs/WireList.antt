@@ -1,11 +1,11 @@
 -- The wire list: values and counts that are read from bytes are those whose numbers stand in them.
 -- Assumes nothing.
-use Prim.Native.Nat.{ℕ, zero, suc, ◌+◌, ◌*◌, ◌<◌}
+use Prim.Native.Nat.{ℕ, zero, suc, ◌+◌, ◌*◌, ◌≤◌, ◌<◌}
 use mathlib.Core.Path.{◌≡◌, refl, sym, ap, ap₂, ◌∙◌, subst}
 use mathlib.Core.List.{List, [], ◌∷◌, ◌++◌, append_assoc, append-nil}
 use native.Mathlib.Omega.{arith}
 use lib.ListN.{length, get_or, take}
-use lib.Seq.{get_or-take}
+use lib.Seq.{get_or-take, length-take-le}
 use Rattle.refusal.specs.Told.{accepted}
 use Rattle.field.specs.Field.{p}
 use Rattle.field.specs.Lists.{each}
@@ -56,6 +56,10 @@ wires-used vs cs n =
     each_equal (wire_numbers (take (2 * n) vs) (take n cs)) (wire_numbers vs cs) n
     (λ k l.
     rw (get_or-take (2 * n) vs (2 * k) 0 (omega arith), get_or-take (2 * n) vs (2 * k + 1) 0 (omega arith), get_or-take n cs k 0 l))
+
+-- and as many as the used counts
+pub wires-handed : (vs cs : List ℕ) (n : ℕ) → n ≤ length cs → each (wire_numbers (take (2 * n) vs) (take n cs)) (length (take n cs)) ≡ each (wire_numbers vs cs) n
+wires-handed vs cs n h = ap (each (wire_numbers (take (2 * n) vs) (take n cs))) (length-take-le n cs h) ∙ wires-used vs cs n
 
 -- values and counts from bytes
 

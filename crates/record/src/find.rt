@@ -1,6 +1,7 @@
 // Looking at all of a record's bytes, in field order, before anything is written. Each function
 // answers the place after what it looked at, behind the number that it found if its caller needs
 // that; or the first refusal.
+// "ctx, clk, counts and declared wires must be below 2^32, elements below p".
 ghost use Rattle.std.specs.Prelude.{◌≡◌, ◌≤◌, ◌<◌, []};
 ghost use Rattle.refusal.specs.Told.{accepted, or_else};
 ghost use Rattle.numbers.specs.Answer.{read_told};
@@ -9,12 +10,9 @@ ghost use Rattle.record.specs.Numbers.{left_off_told, numbers_answer};
 ghost use Rattle.record.specs.Reading.{head_answer, wires_answer, wire_list_answer, declared_answer, nodes_answer, end_answer, fields_answer};
 
 use field::P;
-use numbers::{read, read_below};
+use numbers::{U32_BOUND, read, read_below};
 use refusal::Refusal;
 use trace::{EVAL_CELLS, MAX_NUM_ACE_WIRES, READ_CELLS};
-
-// "ctx, clk, counts and declared wires must be below 2^32".
-const U32_BOUND: u64 = 1 << 32;
 
 // n numbers below a bound.
 fn find_numbers(source: &[u8], at: usize, n: usize, bound: u64) -> Result<usize, Refusal>

@@ -18,7 +18,8 @@ fn number_at(source: &[u8], at: usize) -> (u64, usize)
     read(source, at).unwrap_or((0, at))
 }
 
-// Each function from here on answers the place after what it loaded.
+// Each function from here on answers the place after what it loaded. None refuses, since all was
+// found before: program's `read_numbers` does, and is a function of its own for that.
 fn load_cells(source: &[u8], at: usize, cells: &mut [u64]) -> usize
     ensures value { result ≡ after (length cells.old) source.now at }
     ensures cells_after { cells.new ≡ numbers_from (length cells.old) source.now at }
@@ -37,6 +38,7 @@ fn load_wires(source: &[u8], at: usize, values: &mut [u64], counts: &mut [u32]) 
     ensures counts_after { counts.new ≡ counts_from (length counts.old) source.now at }
 {
     let mut next = at;
+    // By index: what stands in the cells that `chunks_exact_mut` lends is not known after the loop.
     for k in 0..counts.len() {
         let count_at = load_cells(source, next, &mut values[2 * k..2 * k + 2]);
         let (count, after) = number_at(source, count_at);

@@ -32,13 +32,14 @@ fn put_numbers(numbers: &[u64], out: &mut [u8], at: usize) -> usize
     next
 }
 
-fn put_wires(values: &[u64], counts: &[u32], n: usize, out: &mut [u8], at: usize) -> usize
-    requires { (2 * n ≤ length values.now) × (n ≤ length counts.now) × (at + length (bytes_of_all (each (wire_numbers values.now counts.now) n)) ≤ length out.old) }
-    ensures value { result ≡ at + length (bytes_of_all (each (wire_numbers values.now counts.now) n)) }
-    ensures out_after { out.new ≡ sets out.old at (bytes_of_all (each (wire_numbers values.now counts.now) n)) }
+fn put_wires(values: &[u64], counts: &[u32], out: &mut [u8], at: usize) -> usize
+    requires { (length values.now ≡ 2 * length counts.now) × (at + length (bytes_of_all (each (wire_numbers values.now counts.now) (length counts.now))) ≤ length out.old) }
+    ensures value { result ≡ at + length (bytes_of_all (each (wire_numbers values.now counts.now) (length counts.now))) }
+    ensures out_after { out.new ≡ sets out.old at (bytes_of_all (each (wire_numbers values.now counts.now) (length counts.now))) }
 {
     let mut next = at;
-    for k in 0..n {
+    // By index, as in `wires_width`.
+    for k in 0..counts.len() {
         next = put_numbers(&wire(values, counts, k), out, next);
     }
     next
@@ -57,7 +58,9 @@ pub fn put_record(
     let num_wires = num_wires(header);
     let (reads, evals) = node_cells(header, nodes);
     let wires_at = put_numbers(&head(header), out, 0);
-    let declared_at = put_wires(values, counts, num_wires, out, wires_at);
+    let used_values = &values[..2 * num_wires];
+    let used_counts = &counts[..num_wires];
+    let declared_at = put_wires(used_values, used_counts, out, wires_at);
     let lengths = [num_wires as u64, u64::from(header.num_read)];
     let reads_at = put_numbers(&lengths, out, declared_at);
     let num_eval_at = put_numbers(reads, out, reads_at);

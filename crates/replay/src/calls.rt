@@ -32,10 +32,6 @@ impl<'a> Held<'a> {
                 self.lent.lend(buffer, n);
                 Ok(())
             }
-            Instruction::SetState(state) => {
-                self.state = state;
-                Ok(())
-            }
             Instruction::List(call) => lists::answer(rt, call, &mut self.list),
             Instruction::Element(call) => elements::answer(rt, call),
             Instruction::OverLent(call) => {

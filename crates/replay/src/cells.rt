@@ -1,5 +1,5 @@
 // Instructions on the cells of one buffer.
-use crate::instructions::Unknown;
+use crate::instructions::{Unknown, Words};
 use crate::say;
 use std::io;
 
@@ -66,10 +66,12 @@ pub enum CellCall<'a> {
     },
 }
 
-impl<'a> CellCall<'a> {
-    // Of the arguments after the buffer.
-    pub fn parse(code: u64, args: &'a [u64]) -> Result<Self, Unknown> {
-        match (code, args) {
+// Of the code and the arguments after the buffer.
+impl<'a> TryFrom<Words<'a>> for CellCall<'a> {
+    type Error = Unknown;
+
+    fn try_from(words: Words<'a>) -> Result<Self, Unknown> {
+        match words {
             (0, [at, numbers @ ..]) => Ok(Self::Set {
                 at: *at as usize,
                 numbers,

@@ -1,7 +1,7 @@
 // Whole evaluation and row fill, over the lent cells.
 use crate::buffers::Buffers;
 use crate::cells::Cell;
-use crate::instructions::Unknown;
+use crate::instructions::{Unknown, Words};
 use crate::say;
 use eval_circuit::eval_circuit;
 use std::io;
@@ -20,9 +20,11 @@ pub enum CircuitCall {
     FillState(usize),
 }
 
-impl CircuitCall {
-    pub fn parse(code: u64, args: &[u64]) -> Result<Self, Unknown> {
-        match (code, args) {
+impl TryFrom<Words<'_>> for CircuitCall {
+    type Error = Unknown;
+
+    fn try_from(words: Words<'_>) -> Result<Self, Unknown> {
+        match words {
             (15, &[ctx, clk, ptr, num_vars, num_eval]) => Ok(Self::Evaluate {
                 ctx: u32::limited(ctx),
                 clk: u32::limited(clk),
@@ -75,7 +77,7 @@ pub fn answer(
             let evaluated = eval_circuit(
                 ctx, clk, ptr, num_vars, num_eval, memory, values, counts, nodes,
             );
-            say::answer(rt, evaluated.map(say::header_numbers))
+            say::answer(rt, evaluated.map(<[u64; 5]>::from))
         }
         CircuitCall::Fill(header, offset) => {
             let filled = rows::fill(header, values, counts, nodes, offset, rows);

@@ -1,5 +1,5 @@
 // Calls of the field, of pairs and of decoding.
-use crate::instructions::Unknown;
+use crate::instructions::{Unknown, Words};
 use crate::say;
 use field::{felt, quad};
 use instruction::decode_instruction;
@@ -33,9 +33,11 @@ pub enum ElementCall {
     Decode(u64),
 }
 
-impl ElementCall {
-    pub fn parse(code: u64, args: &[u64]) -> Result<Self, Unknown> {
-        match (code, args) {
+impl TryFrom<Words<'_>> for ElementCall {
+    type Error = Unknown;
+
+    fn try_from(words: Words<'_>) -> Result<Self, Unknown> {
+        match words {
             (8, &[op, a, b]) => Ok(Self::Felt(Operation::try_from(op)?, a, b)),
             (9, &[op, a0, a1, b0, b1]) => {
                 Ok(Self::Quad(Operation::try_from(op)?, [a0, a1], [b0, b1]))

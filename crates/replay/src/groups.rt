@@ -1,5 +1,5 @@
 // Calls of the seven-bit numbers, over the lent bytes.
-use crate::instructions::Unknown;
+use crate::instructions::{Unknown, Words};
 use crate::say;
 use std::io;
 
@@ -11,9 +11,11 @@ pub enum NumberCall {
     ReadBelow(usize, u64),
 }
 
-impl NumberCall {
-    pub fn parse(code: u64, args: &[u64]) -> Result<Self, Unknown> {
-        match (code, args) {
+impl TryFrom<Words<'_>> for NumberCall {
+    type Error = Unknown;
+
+    fn try_from(words: Words<'_>) -> Result<Self, Unknown> {
+        match words {
             (21, &[v]) => Ok(Self::Width(v)),
             (22, &[v, at]) => Ok(Self::Write(v, at as usize)),
             (23, &[at]) => Ok(Self::Read(at as usize)),

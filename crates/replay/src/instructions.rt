@@ -6,12 +6,13 @@ use crate::elements::ElementCall;
 use crate::groups::NumberCall;
 use crate::lists::ListCall;
 use crate::records::RecordCall;
-use crate::steps;
 use crate::steps::StepCall;
-use trace::CircuitEvaluation;
 
 // The most arguments that an instruction has.
 pub const ARGUMENTS: usize = 16;
+
+// An instruction's code and its arguments.
+pub type Words<'a> = (u64, &'a [u64]);
 
 // That there is no such instruction.
 #[derive(Clone, Copy, Debug, PartialEq, Eq)]
@@ -21,7 +22,6 @@ pub struct Unknown;
 pub enum Instruction<'a> {
     Cells(Buffer, CellCall<'a>),
     Lend(Buffer, usize),
-    SetState(CircuitEvaluation),
     List(ListCall),
     Element(ElementCall),
     OverLent(LentCall),
@@ -36,30 +36,44 @@ pub enum LentCall {
     Number(NumberCall),
 }
 
-impl<'a> Instruction<'a> {
-    pub fn parse(code: u64, args: &'a [u64]) -> Result<Self, Unknown> {
-        match (code, args) {
-            (0 | 1 | 6 | 7, [buffer, args @ ..]) => Ok(Self::Cells(
-                Buffer::try_from(*buffer)?,
-                CellCall::parse(code, args)?,
-            )),
-            (2, &[buffer, n]) => Ok(Self::Lend(Buffer::try_from(buffer)?, n as usize)),
-            (3, _) => Ok(Self::SetState(steps::parse_state(args)?)),
-            (4 | 5 | 25..=27, _) => Ok(Self::List(ListCall::parse(code, args)?)),
-            (8..=10, _) => Ok(Self::Element(ElementCall::parse(code, args)?)),
-            (11..=24, _) => Ok(Self::OverLent(LentCall::parse(code, args)?)),
-            _ => Err(Unknown),
+impl<'a> TryFrom<Words<'a>> for Instruction<'a> {
+    type Error = Unknown;
+
+    fn try_from(words: Words<'a>) -> Result<Self, Unknown> {
+        // No `or_else` here: tried, and a closure that gives an Instruction<'a> got no proof.
+        if let Ok(call) = ListCall::try_from(words) {
+            return Ok(Self::List(call));
         }
+        if let Ok(call) = ElementCall::try_from(words) {
+            return Ok(Self::Element(call));
+        }
+        if let Ok(call) = LentCall::try_from(words) {
+            return Ok(Self::OverLent(call));
+        }
+        of_buffer(words)
     }
 }
 
-impl LentCall {
-    fn parse(code: u64, args: &[u64]) -> Result<Self, Unknown> {
-        match code {
-            11..=14 => Ok(Self::Step(StepCall::parse(code, args)?)),
-            15..=17 => Ok(Self::Circuit(CircuitCall::parse(code, args)?)),
-            18..=20 => Ok(Self::Record(RecordCall::parse(code, args)?)),
-            _ => Ok(Self::Number(NumberCall::parse(code, args)?)),
-        }
+// An instruction whose first argument is a buffer.
+fn of_buffer<'a>((code, args): Words<'a>) -> Result<Instruction<'a>, Unknown> {
+    let [buffer, args @ ..] = args else {
+        return Err(Unknown);
+    };
+    let buffer = Buffer::try_from(*buffer)?;
+    match (code, args) {
+        (2, &[n]) => Ok(Instruction::Lend(buffer, n as usize)),
+        words => CellCall::try_from(words).map(|call| Instruction::Cells(buffer, call)),
+    }
+}
+
+impl TryFrom<Words<'_>> for LentCall {
+    type Error = Unknown;
+
+    fn try_from(words: Words<'_>) -> Result<Self, Unknown> {
+        StepCall::try_from(words)
+            .map(Self::Step)
+            .or_else(|_| CircuitCall::try_from(words).map(Self::Circuit))
+            .or_else(|_| RecordCall::try_from(words).map(Self::Record))
+            .or_else(|_| NumberCall::try_from(words).map(Self::Number))
     }
 }

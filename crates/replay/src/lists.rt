@@ -1,6 +1,6 @@
 // The run list, and its calls.
 use crate::cells::Cell;
-use crate::instructions::Unknown;
+use crate::instructions::{Unknown, Words};
 use crate::say;
 use runs::{Ace, Entry};
 use std::io;
@@ -14,9 +14,11 @@ pub enum ListCall {
     FirstRow(u32),
 }
 
-impl ListCall {
-    pub fn parse(code: u64, args: &[u64]) -> Result<Self, Unknown> {
-        match (code, args) {
+impl TryFrom<Words<'_>> for ListCall {
+    type Error = Unknown;
+
+    fn try_from(words: Words<'_>) -> Result<Self, Unknown> {
+        match words {
             (4, &[i, clk, num_read, num_eval]) => Ok(Self::SetEntry(
                 i as usize,
                 entry_of(clk, num_read, num_eval),
@@ -38,6 +40,7 @@ fn entry_of(clk: u64, num_read: u64, num_eval: u64) -> Entry {
     }
 }
 
+// By hand: Ace has no Default, and the array of 32 would need one written out in runs.
 pub fn empty() -> Ace {
     Ace {
         entries: [entry_of(0, 0, 0); 32],

@@ -47,7 +47,7 @@ fn replay<R: Read>(
             };
             *arg = number;
         }
-        let Ok(instruction) = Instruction::parse(code, args) else {
+        let Ok(instruction) = Instruction::try_from((code, &*args)) else {
             return say::unknown(rt);
         };
         held.answer(rt, instruction)?;

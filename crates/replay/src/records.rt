@@ -1,7 +1,7 @@
 // Record writer and reader, over the lent cells.
 use crate::buffers::Buffers;
 use crate::circuits::header_of;
-use crate::instructions::Unknown;
+use crate::instructions::{Unknown, Words};
 use crate::say;
 use std::io;
 use trace::{CircuitEvaluation, RecordHeader};
@@ -13,9 +13,11 @@ pub enum RecordCall {
     Read,
 }
 
-impl RecordCall {
-    pub fn parse(code: u64, args: &[u64]) -> Result<Self, Unknown> {
-        match (code, args) {
+impl TryFrom<Words<'_>> for RecordCall {
+    type Error = Unknown;
+
+    fn try_from(words: Words<'_>) -> Result<Self, Unknown> {
+        match words {
             (18, &[ctx, clk, num_read, num_eval, id_next]) => {
                 Ok(Self::Write(header_of(ctx, clk, num_read, num_eval, id_next)))
             }
@@ -50,7 +52,7 @@ pub fn answer(
         }
         RecordCall::Read => {
             let read = record::read_from(bytes, values, counts, nodes);
-            say::answer(rt, read.map(say::header_numbers))
+            say::answer(rt, read.map(<[u64; 5]>::from))
         }
     }
 }

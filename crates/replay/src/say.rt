@@ -4,7 +4,6 @@ ghost use Rattle.std.specs.Prelude.{◌≤◌, length};
 use crate::input::LONGEST;
 use refusal::Refusal;
 use std::io;
-use trace::{CircuitEvaluation, RecordHeader};
 
 // How many numbers are written at once.
 const NUMBERS: usize = 400;
@@ -43,27 +42,4 @@ pub fn answer<const N: usize>(
         }
         Err(refusal) => numbers(rt, &[refusal.number().into(), refusal.place()]),
     }
-}
-
-pub fn header_numbers(header: RecordHeader) -> [u64; 5] {
-    [
-        header.ctx.into(),
-        header.clk.into(),
-        header.num_read.into(),
-        header.num_eval.into(),
-        header.id_next,
-    ]
-}
-
-// "A state is its seven numbers, in the order of instruction 3."
-pub fn state_numbers(state: CircuitEvaluation) -> [u64; 7] {
-    [
-        state.ctx.into(),
-        state.clk.into(),
-        state.num_read.into(),
-        state.num_eval.into(),
-        state.reads_done.into(),
-        state.evals_done.into(),
-        state.id_next,
-    ]
 }

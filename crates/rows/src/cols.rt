@@ -47,7 +47,7 @@ pub fn read_cols(header: RecordHeader, counts: &[u32], nodes: &[u64], i: usize) 
     }
 }
 
-// EVAL row j.
+// EVAL row j. One function for both kinds would branch at each column: no cell and no count lies alike.
 pub fn eval_cols(header: RecordHeader, counts: &[u32], nodes: &[u64], j: usize) -> AceCols
     requires { Held header counts.now nodes.now × (j < header.num_eval) }
     ensures { col_cells result ≡ record_eval_row header counts.now nodes.now j }
@@ -70,6 +70,7 @@ pub fn eval_cols(header: RecordHeader, counts: &[u32], nodes: &[u64], j: usize) 
     }
 }
 
+// No `From`: the columns in their order are asked for here alone.
 impl AceCols {
     pub(crate) fn put(self, rows: &mut [u64], at: usize)
         requires { at + 16 ≤ length rows.old }

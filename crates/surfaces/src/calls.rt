@@ -13,6 +13,7 @@ pub enum Call {
     OutputValue,
 }
 
+// By hand: trace's states have no Default, since no call opens this one.
 pub const NO_STATE: CircuitEvaluation = CircuitEvaluation {
     ctx: 0,
     clk: 0,

@@ -7,8 +7,8 @@ mod calls;
 mod steps;
 
 use crate::calls::{CALLS, Call, NO_STATE};
-use crate::steps::{ByValue, InPlace, Lent, Surface};
-use in_place::Stepped;
+use crate::steps::{ByValue, InPlace, Lent, Step, Surface};
+use refusal::Refusal;
 use std::io;
 use telling::answers::{Answer, State};
 use telling::buffers::{CANARY, COUNT_CANARY};
@@ -21,14 +21,15 @@ const UNTOUCHED: Lent = Lent {
     nodes: [CANARY; 53],
 };
 
-fn tell<S: Surface>(rt: &impl Print, call: &str, step: Stepped) -> io::Result<CircuitEvaluation> {
+fn tell<S: Surface>(rt: &impl Print, call: &str, step: Step) -> io::Result<CircuitEvaluation> {
+    let state = step.unwrap_or_else(|refused| refused.state);
     println!(rt;
         "{}: {call} = {},{}",
         S::NAME,
-        Answer(step.told.map(|()| Numbers([]))),
-        State(step.state)
+        Answer(step.map(|_| Numbers([])).map_err(Refusal::from)),
+        State(state)
     )?;
-    Ok(step.state)
+    Ok(state)
 }
 
 fn output<S: Surface>(rt: &impl Print, state: CircuitEvaluation, lent: &Lent) -> io::Result<()> {

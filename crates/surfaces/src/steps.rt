@@ -1,5 +1,5 @@
-// The two surfaces: each call gives its answer, and the state after it.
-use in_place::{Stepped, through};
+// The two surfaces: each call gives the state after it, beside a refusal too.
+use in_place::through;
 use refusal::Refusal;
 use telling::buffers::Buffers;
 use trace::{CircuitEvaluation, RecordHeader, RefusedStep};
@@ -7,32 +7,28 @@ use trace::{CircuitEvaluation, RecordHeader, RefusedStep};
 // What the listing's six wires and five nodes need, and cells past them.
 pub type Lent = Buffers<14, 8, 53>;
 
+pub type Step = Result<CircuitEvaluation, RefusedStep>;
+
+// No function that is passed the four calls: tried, and what a closure asks of a call got no proof.
 pub trait Surface {
     const NAME: &'static str;
 
     // In the listing's context and at its clock.
-    fn new(state: CircuitEvaluation, num_read: u32, num_eval: u32, lent: &Lent) -> Stepped;
+    fn new(state: CircuitEvaluation, num_read: u32, num_eval: u32, lent: &Lent) -> Step;
 
-    fn do_read(state: CircuitEvaluation, ptr: u64, word: [[u64; 2]; 2], lent: &mut Lent) -> Stepped;
+    fn do_read(state: CircuitEvaluation, ptr: u64, word: [[u64; 2]; 2], lent: &mut Lent) -> Step;
 
-    fn do_eval(state: CircuitEvaluation, ptr: u64, instruction: u64, lent: &mut Lent) -> Stepped;
+    fn do_eval(state: CircuitEvaluation, ptr: u64, instruction: u64, lent: &mut Lent) -> Step;
 
     fn output_value(state: CircuitEvaluation, lent: &Lent) -> Result<RecordHeader, Refusal>;
 }
 
 pub struct ByValue;
 
-fn stepped(step: Result<CircuitEvaluation, RefusedStep>) -> Stepped {
-    Stepped {
-        state: step.unwrap_or_else(|refused| refused.state),
-        told: step.map(|_| ()).map_err(|refused| refused.refusal),
-    }
-}
-
 impl Surface for ByValue {
     const NAME: &'static str = "by value";
 
-    fn new(state: CircuitEvaluation, num_read: u32, num_eval: u32, lent: &Lent) -> Stepped {
+    fn new(state: CircuitEvaluation, num_read: u32, num_eval: u32, lent: &Lent) -> Step {
         let opened = CircuitEvaluation::new(
             0,
             7,
@@ -42,32 +38,27 @@ impl Surface for ByValue {
             &lent.counts,
             &lent.nodes,
         );
-        stepped(opened.map_err(|refusal| RefusedStep { state, refusal }))
+        opened.map_err(|refusal| RefusedStep { state, refusal })
     }
 
-    fn do_read(
-        state: CircuitEvaluation,
-        ptr: u64,
-        word: [[u64; 2]; 2],
-        lent: &mut Lent,
-    ) -> Stepped {
-        stepped(state.do_read(
+    fn do_read(state: CircuitEvaluation, ptr: u64, word: [[u64; 2]; 2], lent: &mut Lent) -> Step {
+        state.do_read(
             ptr,
             word,
             &mut lent.values,
             &mut lent.counts,
             &mut lent.nodes,
-        ))
+        )
     }
 
-    fn do_eval(state: CircuitEvaluation, ptr: u64, instruction: u64, lent: &mut Lent) -> Stepped {
-        stepped(state.do_eval(
+    fn do_eval(state: CircuitEvaluation, ptr: u64, instruction: u64, lent: &mut Lent) -> Step {
+        state.do_eval(
             ptr,
             instruction,
             &mut lent.values,
             &mut lent.counts,
             &mut lent.nodes,
-        ))
+        )
     }
 
     fn output_value(state: CircuitEvaluation, lent: &Lent) -> Result<RecordHeader, Refusal> {
@@ -80,7 +71,7 @@ pub struct InPlace;
 impl Surface for InPlace {
     const NAME: &'static str = "in place";
 
-    fn new(state: CircuitEvaluation, num_read: u32, num_eval: u32, lent: &Lent) -> Stepped {
+    fn new(state: CircuitEvaluation, num_read: u32, num_eval: u32, lent: &Lent) -> Step {
         through::new(
             state,
             0,
@@ -93,12 +84,7 @@ impl Surface for InPlace {
         )
     }
 
-    fn do_read(
-        state: CircuitEvaluation,
-        ptr: u64,
-        word: [[u64; 2]; 2],
-        lent: &mut Lent,
-    ) -> Stepped {
+    fn do_read(state: CircuitEvaluation, ptr: u64, word: [[u64; 2]; 2], lent: &mut Lent) -> Step {
         through::do_read(
             state,
             ptr,
@@ -109,7 +95,7 @@ impl Surface for InPlace {
         )
     }
 
-    fn do_eval(state: CircuitEvaluation, ptr: u64, instruction: u64, lent: &mut Lent) -> Stepped {
+    fn do_eval(state: CircuitEvaluation, ptr: u64, instruction: u64, lent: &mut Lent) -> Step {
         through::do_eval(
             state,
             ptr,

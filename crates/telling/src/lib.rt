@@ -5,6 +5,7 @@
 
 pub mod answers;
 pub mod buffers;
+pub mod gates;
 pub mod listing;
 pub mod lists;
 pub mod small;

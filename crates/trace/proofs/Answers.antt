@@ -1,6 +1,6 @@
 -- What the public contracts determine: an answer is known from what it tells, and so are a step's answer and the buffers beside it.
 -- Assumes nothing.
-use Rattle.std.proofs.Common.{◌≡◌, ℕ, List, Result, Ok, Err, refl, sym, ap, ap₂, get_or}
+use Rattle.std.proofs.Common.{◌≡◌, ℕ, List, Result, Ok, Err, sym, ap, ap₂, get_or}
 use Rattle.refusal.specs.Told.{accepted}
 use Rattle.refusal.specs.declared.Refusal.{Refusal}
 use Rattle.refusal.proofs.Tellings.{clash, same_values, same_refusal}

@@ -29,10 +29,6 @@ module _ (s : CircuitEvaluation) (fit : Bool) (ptr : ℕ) (w : List (List ℕ)) 
   read_out_of_turn h = rw h
 
   module _ (h : read_turn s ≡ true) where
-    pub read_short : fit ≡ false → refused 6 0 ≡ read_tests s fit ptr w
-    unfolding read_tests
-    read_short f = rw (h, f)
-
     pub read-cells : (x : Told) → fit ≡ true → x ≡ of_elements (read_handed ptr w) (accepted []) → x ≡ read_tests s fit ptr w
     unfolding read_tests
     read-cells x f q = rw (h, f) q
@@ -44,10 +40,6 @@ module _ (s : CircuitEvaluation) (fit : Bool) (ptr word : ℕ) where
   eval_out_of_turn h = rw h
 
   module _ (h : eval_turn s ≡ true) where
-    pub eval_short : fit ≡ false → refused 6 0 ≡ eval_tests s fit ptr word
-    unfolding eval_tests
-    eval_short f = rw (h, f)
-
     pub eval_cells_lem : (x : Told) → fit ≡ true → x ≡ of_elements (word ∷ ptr ∷ []) (accepted []) → x ≡ eval_tests s fit ptr word
     unfolding eval_tests
     eval_cells_lem x f q = rw (h, f) q

@@ -10,7 +10,7 @@ use native.Mathlib.Omega.{arith}
 use lib.Dec.{ltb}
 use lib.ListN.{length, get_or}
 use borrow.Author.Tests.{ltb-true}
-use Rattle.refusal.specs.Told.{accepted, refused}
+use Rattle.refusal.specs.Told.{Told, accepted, refused}
 use Rattle.field.specs.Field.{p, sub_f}
 use Rattle.field.specs.Pair.{Pair, pair, Elements}
 use Rattle.field.specs.Answer.{pair_of}
@@ -25,6 +25,7 @@ use Rattle.trace.specs.declared.CircuitEvaluation.{CircuitEvaluation}
 use Rattle.trace.specs.Counts.{most_wires}
 use Rattle.trace.specs.State.{wires_of, made_of, read_turn, eval_turn}
 use Rattle.trace.specs.Outcome.{Lent, lent, outcome, fits, value_at}
+use Rattle.trace.specs.Record.{tested_told}
 use Rattle.trace.specs.Read.{read_tests, read_made, read_step, first_pair, second_pair}
 use Rattle.trace.specs.Eval.{eval_tests, position, is_made, stored_answer, operand_answer, operand, raised, eval_made, operands_step, eval_step}
 use Rattle.trace.specs.declared.wire_bus.WireBus.{WireBus}
@@ -37,28 +38,35 @@ room-here s b h f =
     let r = room_of _ _ _ _ _ f in
     record { few = h.few; room-values = r.for_values; room-counts = r.for_counts; room-nodes = r.for_nodes }
 
+-- what a test told, once it is known to have passed
+passed : (r : Result Unit Refusal) (u : Unit) (t : Told) → tested_told r ≡ t → r ≡ Ok u → accepted [] ≡ t
+passed r u t e q = rw q at e
+
 -- READ
 module _ (s : CircuitEvaluation) (ptr : ℕ) (w : List (List ℕ)) (b : Lent) where
   pub read_refused : (number place : ℕ) → refused number place ≡ read_tests s (fits s b) ptr w → outcome (refused number place) s b ≡ read_step s ptr w b
   unfolding read_step
   read_refused n k e = rw (← e)
 
-  module _ (e : accepted [] ≡ read_tests s (fits s b) ptr w) where
+  module _ {r : Result Unit Refusal} (told : tested_told r ≡ read_tests s (fits s b) ptr w) {u : Unit} (is_u : r ≡ Ok u) where
+    read_passed : accepted [] ≡ read_tests s (fits s b) ptr w
+    read_passed = passed r _ _ told is_u
+
     pub read_ready : Room s b.values b.counts b.nodes × ReadReady s
     unfolding read_tests
     read_ready =
-        let t = passes (read_turn s) _ 13 0 [] (sym e) in
+        let t = passes (read_turn s) _ 13 0 [] (sym read_passed) in
         let f = passes (fits s b) _ 6 0 [] t.1 in
         let h = read_turn_of s t.0 in
         let d = h.0 in
         let g : s.evals_done ≡ 0 = ⊎_elim (λ q. q) (λ q. absurd (omega arith)) d.order in
         (room-here s b d.counts f.0, record { to_read = h.1; no_gate = g; two_ids = omega arith; read_id = omega arith })
 
-    pub read_accepted : (id : ℕ) (after : Lent) → id ≡ sub_f s.id_next 2 → after ≡ read_made s ptr (pair_of (first_pair w)) (pair_of (second_pair w)) b
+    pub read_accepted : {id : ℕ} {after : Lent} → id ≡ sub_f s.id_next 2 → after ≡ read_made s ptr (pair_of (first_pair w)) (pair_of (second_pair w)) b
         → outcome (accepted []) (record { ctx = s.ctx; clk = s.clk; num_read = s.num_read; num_eval = s.num_eval; reads_done = s.reads_done + 1; evals_done = s.evals_done; id_next = id }) after
         ≡ read_step s ptr w b
     unfolding read_step
-    read_accepted id after i q = rw (← e, i, q)
+    read_accepted i q = rw (← read_passed, i, q)
 
 -- an operand that is taken: its wire was made, its cells are elements and its value
 pub record Taken (num-wires made id : ℕ) (vs cs : List ℕ) (v : Pair) : Type 0 where
@@ -92,11 +100,14 @@ module _ (s : CircuitEvaluation) (ptr word : ℕ) (b : Lent) where
   unfolding eval_step
   eval_refused n k e = rw (← e)
 
-  module _ (e : accepted [] ≡ eval_tests s (fits s b) ptr word) where
+  module _ {r : Result Unit Refusal} (told : tested_told r ≡ eval_tests s (fits s b) ptr word) {u : Unit} (is_u : r ≡ Ok u) where
+    eval_passed : accepted [] ≡ eval_tests s (fits s b) ptr word
+    eval_passed = passed r _ _ told is_u
+
     pub eval_ready : Room s b.values b.counts b.nodes × EvalReady s
     unfolding eval_tests
     eval_ready =
-        let t = passes (eval_turn s) _ 13 0 [] (sym e) in
+        let t = passes (eval_turn s) _ 13 0 [] (sym eval_passed) in
         let f = passes (fits s b) _ 6 0 [] t.1 in
         let h = eval_turn_of s t.0 in
         let d = h.0 in
@@ -105,7 +116,7 @@ module _ (s : CircuitEvaluation) (ptr word : ℕ) (b : Lent) where
     word_element : word < p
     unfolding eval_tests
     word_element =
-        let t = passes (eval_turn s) _ 13 0 [] (sym e) in
+        let t = passes (eval_turn s) _ 13 0 [] (sym eval_passed) in
         let f = passes (fits s b) _ 6 0 [] t.1 in
         elements_of (word ∷ ptr ∷ []) [] _ f.1 0 (omega arith)
 
@@ -116,11 +127,11 @@ module _ (s : CircuitEvaluation) (ptr word : ℕ) (b : Lent) where
         (λ l. not_instruction word word_element l)
         (below? (opcode word) 3)
 
-    pub eval_undecoded : (number place : ℕ) → refused number place ≡ decode_answer word → outcome (refused 8 s.evals_done) s b ≡ eval_step s ptr word b
+    pub eval_undecoded : {number place : ℕ} → refused number place ≡ decode_answer word → outcome (refused 8 s.evals_done) s b ≡ eval_step s ptr word b
     unfolding eval_step
-    eval_undecoded n k q = rw (← e, undecoded n k q)
+    eval_undecoded {number = n} {place = k} q = rw (← eval_passed, undecoded n k q)
 
-    module _ (left right op : ℕ) (d : accepted (left ∷ right ∷ op ∷ []) ≡ decode_answer word) where
+    module _ {left right op : ℕ} (d : accepted (left ∷ right ∷ op ∷ []) ≡ decode_answer word) where
       parts : (left ≡ left_id word) × (right ≡ right_id word) × (op ≡ opcode word)
       parts =
           ⊎_elim
@@ -134,7 +145,7 @@ module _ (s : CircuitEvaluation) (ptr word : ℕ) (b : Lent) where
       -- past 13, 6, 7 and 8 the step is what its operands make of it
       pub eval_operands : operands_step s ptr left right op b ≡ eval_step s ptr word b
       unfolding eval_step
-      eval_operands = rw (parts.0, parts.1, parts.2, ← e, ← d)
+      eval_operands = rw (parts.0, parts.1, parts.2, ← eval_passed, ← d)
 
 -- counts of the same length leave the room as it is
 pub room_kept : (s : CircuitEvaluation) (vs cs ns ds : List ℕ) → length ds ≡ length cs → Room s vs cs ns → Room s vs ds ns

@@ -1,6 +1,6 @@
 -- What the private functions promise each other. No public contract cites this file.
 -- Assumes nothing.
-use Rattle.std.specs.Prelude.{◌≡◌, ℕ, Result, ◌+◌, ◌*◌, ◌≤◌, ◌<◌, List, [], ◌∷◌, length}
+use Rattle.std.specs.Prelude.{◌≡◌, ℕ, Result, ◌+◌, ◌*◌, ◌≤◌, ◌<◌, List, length}
 use Rattle.refusal.specs.Told.{Told, accepted, refused}
 use Rattle.refusal.specs.Refusal.{told}
 use Rattle.refusal.specs.declared.Refusal.{Refusal}

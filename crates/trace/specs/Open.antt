@@ -1,7 +1,7 @@
 -- Opening: "takes ctx, clk, num_read and num_eval (u32) and refuses" 1, 2, 3 and 6, "changing nothing".
 -- Assumes nothing.
 use Rattle.std.specs.Prelude.{ℕ, Result, List, [], ◌∷◌}
-use Rattle.refusal.specs.Told.{Told, accepted, refused}
+use Rattle.refusal.specs.Told.{Told, accepted}
 use Rattle.refusal.specs.Refusal.{told}
 use Rattle.refusal.specs.declared.Refusal.{Refusal}
 use Rattle.trace.specs.declared.CircuitEvaluation.{CircuitEvaluation}

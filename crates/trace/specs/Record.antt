@@ -1,6 +1,6 @@
 -- A record: the header, and the lent buffers that hold its wires and nodes.
 -- Assumes nothing.
-use Rattle.std.specs.Prelude.{ℕ, Result, ◌*◌, Bool, cond, ◌&&◌, List, [], ltb, leb, eqb, length, take}
+use Rattle.std.specs.Prelude.{ℕ, Result, ◌*◌, Bool, cond, ◌&&◌, List, ltb, leb, eqb, length, take}
 use Rattle.refusal.specs.Told.{Told, accepted, refused}
 use Rattle.refusal.specs.Refusal.{told, nothing}
 use Rattle.refusal.specs.declared.Refusal.{Refusal}

@@ -1,5 +1,7 @@
 // Wires and steps: a circuit is evaluated one READ or EVAL step at a time, over lent value cells,
-// counts and node cells. The state goes in by value and comes back with the answer.
+// counts and node cells. The state goes in by value and comes back with the answer. The three are
+// parameters apart in every crate: a lent struct of them asks of each contract a second clause, that
+// its slices were not exchanged, and has to be made for every call.
 #![tactic(auto)]
 
 pub mod counts;
@@ -12,10 +14,10 @@ mod wire_bus;
 ghost use Rattle.std.specs.Prelude.{◌≡◌, [], length};
 ghost use Rattle.refusal.specs.Told.{accepted};
 ghost use Rattle.trace.specs.Outcome.{lent, step_outcome};
-ghost use Rattle.trace.specs.Open.{open_told, open_answer};
+ghost use Rattle.trace.specs.Open.{numbers_of, open_told, open_answer};
 ghost use Rattle.trace.specs.Read.{read_step};
 ghost use Rattle.trace.specs.Eval.{eval_step};
-ghost use Rattle.trace.specs.Output.{output_told, output_answer};
+ghost use Rattle.trace.specs.Output.{header_numbers, output_told, output_answer};
 ghost use Rattle.trace.specs.Record.{tested_told, header_told, of_record, finalized_answer};
 
 use crate::counts::test_counts;
@@ -62,6 +64,36 @@ pub struct RefusedStep {
     pub refusal: Refusal,
 }
 
+impl From<CircuitEvaluation> for [u64; 7] {
+    ghost from_gives = { λ state numbers. numbers ≡ numbers_of state };
+
+    fn from(state: CircuitEvaluation) -> [u64; 7] {
+        [
+            state.ctx.into(),
+            state.clk.into(),
+            state.num_read.into(),
+            state.num_eval.into(),
+            state.reads_done.into(),
+            state.evals_done.into(),
+            state.id_next,
+        ]
+    }
+}
+
+impl From<RecordHeader> for [u64; 5] {
+    ghost from_gives = { λ header numbers. numbers ≡ header_numbers header };
+
+    fn from(header: RecordHeader) -> [u64; 5] {
+        [
+            header.ctx.into(),
+            header.clk.into(),
+            header.num_read.into(),
+            header.num_eval.into(),
+            header.id_next,
+        ]
+    }
+}
+
 impl From<RefusedStep> for Refusal {
     ghost from_gives = { λ step refusal. refusal ≡ step.refusal };
 
@@ -98,6 +130,7 @@ impl CircuitEvaluation {
         })
     }
 
+    // "Each step hands the state on by value and gives it back."
     pub fn do_read(
         mut self,
         ptr: u64,
@@ -109,12 +142,7 @@ impl CircuitEvaluation {
         ensures { step_outcome result (lent values.new counts.new nodes.new) ≡ read_step self ptr word (lent values.old counts.old nodes.old) }
     {
         let tested = self.test_read(ptr, word, values.len(), counts.len(), nodes.len());
-        if let Err(refusal) = tested {
-            return Err(RefusedStep {
-                state: self,
-                refusal,
-            });
-        }
+        tested.map_err(|refusal| self.refused(refusal))?;
         self.read(ptr, word[0], word[1], values, counts, nodes);
         self.reads_done += 1;
         self.id_next -= 2;
@@ -132,38 +160,18 @@ impl CircuitEvaluation {
         ensures { step_outcome result (lent values.new counts.new nodes.new) ≡ eval_step self ptr instruction (lent values.old counts.old nodes.old) }
     {
         let tested = self.test_eval(ptr, instruction, values.len(), counts.len(), nodes.len());
-        if let Err(refusal) = tested {
-            return Err(RefusedStep {
-                state: self,
-                refusal,
-            });
-        }
+        tested.map_err(|refusal| self.refused(refusal))?;
         let gate = self.evals_done as u64;
         let Ok((id_l, id_r, op)) = decode_instruction(instruction) else {
-            return Err(RefusedStep {
-                state: self,
-                refusal: Refusal::NotInstruction(gate),
-            });
+            return Err(self.refused(Refusal::NotInstruction(gate)));
         };
         let bus = self.wire_bus();
         // "As in the Rust, the left count is raised before the right operand is looked at, and
         // stays raised where the right is refused."
         let left = bus.read_value(id_l as usize, Refusal::LeftNotMade(gate), values, counts);
-        let v_l = match left {
-            Ok(value) => value,
-            Err(refusal) => return Err(RefusedStep {
-                state: self,
-                refusal,
-            }),
-        };
+        let v_l = left.map_err(|refusal| self.refused(refusal))?;
         let right = bus.read_value(id_r as usize, Refusal::RightNotMade(gate), values, counts);
-        let v_r = match right {
-            Ok(value) => value,
-            Err(refusal) => return Err(RefusedStep {
-                state: self,
-                refusal,
-            }),
-        };
+        let v_r = right.map_err(|refusal| self.refused(refusal))?;
         self.gate(ptr, id_l, id_r, op, v_l, v_r, values, counts, nodes);
         self.evals_done += 1;
         self.id_next = before(self.id_next);

@@ -25,6 +25,7 @@ pub struct EvalNode {
     pub v_2: [u64; 2],
 }
 
+// No `From`: the cells in their order are asked for here alone.
 impl ReadNode {
     pub(crate) fn put(self, nodes: &mut [u64], at: usize)
         requires { at + 7 ≤ length nodes.old }

@@ -3,15 +3,17 @@ ghost use Rattle.std.specs.Prelude.{◌≡◌, [], ◌∷◌, ◌&&◌, ◌||◌
 ghost use Rattle.refusal.specs.Told.{accepted};
 ghost use Rattle.field.specs.Field.{p};
 ghost use Rattle.field.specs.Answer.{of_elements};
-ghost use Rattle.trace.specs.Counts.{most_wires, room};
-ghost use Rattle.trace.specs.State.{wires_of, made_of, next_id, sound, read_turn, eval_turn};
-ghost use Rattle.trace.specs.Read.{read_tests, read_handed};
+ghost use Rattle.trace.specs.Counts.{most_wires, room, with_room};
+ghost use Rattle.trace.specs.State.{wires_of, made_of, next_id, sound, in_turn, read_turn, eval_turn};
+ghost use Rattle.trace.specs.Read.{read_tests};
 ghost use Rattle.trace.specs.Eval.{eval_tests};
 ghost use Rattle.trace.specs.Output.{header_of};
 ghost use Rattle.trace.specs.Record.{tested_told};
 
 use crate::counts::test_counts;
-use crate::{CircuitEvaluation, EVAL_CELLS, MAX_EVAL_CIRCUIT_WIRES, READ_CELLS, RecordHeader};
+use crate::{
+    CircuitEvaluation, EVAL_CELLS, MAX_EVAL_CIRCUIT_WIRES, READ_CELLS, RecordHeader, RefusedStep,
+};
 use field::P;
 use field::cells::test_elements;
 use refusal::Refusal;
@@ -32,14 +34,17 @@ pub fn has_room(num_read: u32, num_eval: u32, values: usize, counts: usize, node
     READ_CELLS * reads + EVAL_CELLS * evals <= nodes
 }
 
-// The numbers handed to a READ step, the pointer being last.
-fn test_handed(ptr: u64, word: [[u64; 2]; 2]) -> Result<(), Refusal>
-    ensures { tested_told result ≡ of_elements (read_handed ptr word) (accepted []) }
-{
-    test_elements(&[word[0][0], word[0][1], word[1][0], word[1][1], ptr])
-}
-
 impl CircuitEvaluation {
+    // A refused step gives the state back beside the refusal.
+    pub(crate) fn refused(self, refusal: Refusal) -> RefusedStep
+        ensures { result ≡ record { state = self; refusal = refusal } }
+    {
+        RefusedStep {
+            state: self,
+            refusal,
+        }
+    }
+
     pub(crate) fn header(self) -> RecordHeader
         ensures { result ≡ header_of self }
     {
@@ -136,7 +141,28 @@ impl CircuitEvaluation {
         self.is_next()
     }
 
-    // "A step refuses in the order 13, 6, 7."
+    // "A step refuses in the order 13, 6, 7 (its own cells; a step returns the cell's number in what
+    // it was handed, from 0, the pointer being last)."
+    fn test_step(
+        self,
+        turn: bool,
+        handed: &[u64],
+        values: usize,
+        counts: usize,
+        nodes: usize,
+    ) -> Result<(), Refusal>
+        ensures { tested_told result ≡ in_turn turn (with_room (room self.num_read self.num_eval values counts nodes) (of_elements handed.now (accepted []))) }
+    {
+        if !turn {
+            return Err(Refusal::OutOfTurn);
+        }
+        if !has_room(self.num_read, self.num_eval, values, counts, nodes) {
+            return Err(Refusal::ShortBuffer);
+        }
+        test_elements(handed)
+    }
+
+    #[tactic(auto, unfolding(crate::specs::Read::read_tests))]
     pub(crate) fn test_read(
         self,
         ptr: u64,
@@ -147,13 +173,8 @@ impl CircuitEvaluation {
     ) -> Result<(), Refusal>
         ensures { tested_told result ≡ read_tests self (room self.num_read self.num_eval values counts nodes) ptr word }
     {
-        if !self.in_read_turn() {
-            return Err(Refusal::OutOfTurn);
-        }
-        if !has_room(self.num_read, self.num_eval, values, counts, nodes) {
-            return Err(Refusal::ShortBuffer);
-        }
-        test_handed(ptr, word)
+        let handed = [word[0][0], word[0][1], word[1][0], word[1][1], ptr];
+        self.test_step(self.in_read_turn(), &handed, values, counts, nodes)
     }
 
     pub(crate) fn test_eval(
@@ -166,13 +187,8 @@ impl CircuitEvaluation {
     ) -> Result<(), Refusal>
         ensures { tested_told result ≡ eval_tests self (room self.num_read self.num_eval values counts nodes) ptr instruction }
     {
-        if !self.in_eval_turn() {
-            return Err(Refusal::OutOfTurn);
-        }
-        if !has_room(self.num_read, self.num_eval, values, counts, nodes) {
-            return Err(Refusal::ShortBuffer);
-        }
-        test_elements(&[instruction, ptr])
+        let handed = [instruction, ptr];
+        self.test_step(self.in_eval_turn(), &handed, values, counts, nodes)
     }
 }
 

@@ -42,11 +42,11 @@ impl CircuitEvaluation {
         let next = bus.insert(v_0, values, counts);
         next.insert(v_1, values, counts);
         let node = ReadNode {
-            ptr: ptr,
+            ptr,
             id_0: id,
-            v_0: v_0,
+            v_0,
             id_1: id - 1,
-            v_1: v_1,
+            v_1,
         };
         node.put(nodes, READ_CELLS * self.reads_done as usize);
     }
@@ -71,18 +71,16 @@ impl CircuitEvaluation {
         let v_0 = apply(op, v_l, v_r);
         bus.insert(v_0, values, counts);
         let node = EvalNode {
-            ptr: ptr,
+            ptr,
             eval_op: eval_op(op),
             id_0: self.id_next,
-            v_0: v_0,
+            v_0,
             id_1: id_l as u64,
             v_1: v_l,
             id_2: id_r as u64,
             v_2: v_r,
         };
-        node.put(
-            nodes,
-            7 * self.num_read as usize + 11 * self.evals_done as usize,
-        );
+        let reads = READ_CELLS * self.num_read as usize;
+        node.put(nodes, reads + EVAL_CELLS * self.evals_done as usize);
     }
 }

@@ -1,8 +1,7 @@
 -- `field::cells::elements` meets its contract.
 -- Assumes nothing.
-use Rattle.std.proofs.Common.{ap, ◌∙◌, sym, rules, arith}
+use Rattle.std.proofs.Common.{sym, rules}
 use Rattle.std.proofs.lemmas.List.{ext_get_or}
-use Rattle.refusal.specs.Told.{accepted}
 use Rattle.field.proofs.Over.{elements_refused, elements_passed, elements_of}
 use Rattle.field.proofs.cells.elements.Goals as goal
 

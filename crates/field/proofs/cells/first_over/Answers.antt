@@ -1,11 +1,8 @@
 -- `field::cells::first_over` meets its contract.
 -- Assumes nothing.
-use Rattle.std.proofs.Common.{◌≡◌, refl, ◌∙◌, arith, rules}
+use Rattle.std.proofs.Common.{◌≡◌, ◌∙◌, arith, rules}
 use Rattle.field.proofs.Over.{over_at, over_next, over_end}
 use Rattle.field.proofs.cells.first_over.Goals as goal
-
-pub loop-at-init : goal.loop-at-init
-loop-at-init c = record { none_so_far = refl; not_past = omega arith }
 
 pub returns-then-cells-at-ge-P : goal.returns-then-cells-at-ge-P
 returns-then-cells-at-ge-P c = over_at _ _ _ (search rules) (search rules) (search rules) ∙ c.loop-at.invariant.none_so_far

@@ -1,13 +1,13 @@
 -- `field::felt::add` meets its contract.
 -- Assumes nothing.
-use Rattle.std.proofs.Common.{ℕ, List, [], ◌∷◌, ap, ◌∙◌, get_or}
+use Rattle.std.proofs.Common.{◌∙◌}
 use Rattle.refusal.specs.Refusal.{number_alone}
 use Rattle.field.specs.Field.{add_f}
-use Rattle.field.proofs.Over.{elements_refused, elements_passed}
+use Rattle.field.proofs.Over.{elements_refused, felts_passed}
 use Rattle.field.proofs.felt.add.Goals as goal
 
 pub returns-in_err-a : goal.returns-in_err-a
 returns-in_err-a c = elements_refused number_alone _ _ _ _ _ c.from_residual.ensures c.in_err-a.ensures
 
 pub returns : goal.returns
-returns c = elements_passed (λ xs. add_f (get_or xs 0 c.index-branch-0.result) (get_or xs 1 c.index-branch-1.result) ∷ []) _ _ _ _ c.in_ok-a.ensures (ap number_alone (c.result.view_is ∙ c.add.ensures))
+returns c = felts_passed add_f c.args.a c.args.b _ _ _ _ c.in_ok-a.ensures (c.result.view_is ∙ c.add.ensures)

@@ -11,30 +11,15 @@ use Rattle.record.proofs.find.find.Goals as goal
 
 pub returns-in_err-declared_at : goal.returns-in_err-declared_at
 unfolding fields_answer
-returns-in_err-declared_at c =
-    let e = sym c.in_ok-num_wires.ensures in
-    let n = length_is _ _ _ e in
-    let at = list_at _ _ _ e in
-    told_up nothing _ _ c.from_residual-in_err-declared_at.ensures ∙ grind (arith, goes_on, stops)
+returns-in_err-declared_at c = told_up nothing _ _ c.from_residual-in_err-declared_at.ensures ∙ grind (arith, goes_on, stops, length_is, list_at)
 
 pub returns-in_err-declared : goal.returns-in_err-declared
 unfolding fields_answer declared_at
-returns-in_err-declared c =
-    let e = sym c.in_ok-num_wires.ensures in
-    let n = length_is _ _ _ e in
-    let at = list_at _ _ _ e in
-    let wires = list_end _ _ _ _ _ _ _ (sym c.in_ok-declared_at.ensures) in
-    told_up nothing _ _ c.from_residual-in_err-declared.ensures ∙ grind (arith, goes_on, stops)
+returns-in_err-declared c = told_up nothing _ _ c.from_residual-in_err-declared.ensures ∙ grind (arith, goes_on, stops, length_is, list_at, list_end)
 
 pub returns-in_err-num_read : goal.returns-in_err-num_read
 unfolding fields_answer declared_at read_list_at
-returns-in_err-num_read c =
-    let e = sym c.in_ok-num_wires.ensures in
-    let n = length_is _ _ _ e in
-    let at = list_at _ _ _ e in
-    let wires = list_end _ _ _ _ _ _ _ (sym c.in_ok-declared_at.ensures) in
-    let declared = declared_accepted _ _ _ _ _ (sym c.in_ok-declared.ensures) in
-    told_up nothing _ _ c.from_residual-in_err-num_read.ensures ∙ grind (arith, goes_on, stops)
+returns-in_err-num_read c = told_up nothing _ _ c.from_residual-in_err-num_read.ensures ∙ grind (arith, goes_on, stops, length_is, list_at, list_end, declared_accepted)
 
 pub overflow_mul-used : goal.overflow_mul-used
 overflow_mul-used c =
@@ -48,23 +33,8 @@ find_nodes-requires-2 c =
 
 pub returns-in_err-num_eval : goal.returns-in_err-num_eval
 unfolding fields_answer declared_at read_list_at reads_in reads_at eval_list_at
-returns-in_err-num_eval c =
-    let e = sym c.in_ok-num_wires.ensures in
-    let n = length_is _ _ _ e in
-    let at = list_at _ _ _ e in
-    let wires = list_end _ _ _ _ _ _ _ (sym c.in_ok-declared_at.ensures) in
-    let declared = declared_accepted _ _ _ _ _ (sym c.in_ok-declared.ensures) in
-    let reads = nodes_accepted _ _ _ _ _ _ _ (sym c.in_ok-num_read.ensures) in
-    told_up nothing _ _ c.from_residual-in_err-num_eval.ensures ∙ grind (arith, goes_on, stops)
+returns-in_err-num_eval c = told_up nothing _ _ c.from_residual-in_err-num_eval.ensures ∙ grind (arith, goes_on, stops, length_is, list_at, list_end, declared_accepted, nodes_accepted)
 
 pub returns : goal.returns
 unfolding fields_answer declared_at declared_in read_list_at reads_in reads_at eval_list_at evals_in evals_at end_at
-returns c =
-    let e = sym c.in_ok-num_wires.ensures in
-    let n = length_is _ _ _ e in
-    let at = list_at _ _ _ e in
-    let wires = list_end _ _ _ _ _ _ _ (sym c.in_ok-declared_at.ensures) in
-    let declared = declared_accepted _ _ _ _ _ (sym c.in_ok-declared.ensures) in
-    let reads = nodes_accepted _ _ _ _ _ _ _ (sym c.in_ok-num_read.ensures) in
-    let evals = nodes_accepted _ _ _ _ _ _ _ (sym c.in_ok-num_eval.ensures) in
-    grind (arith, goes_on, stops)
+returns c = grind (arith, goes_on, stops, length_is, list_at, list_end, declared_accepted, nodes_accepted)

@@ -11,7 +11,7 @@ loop-k-init c = wires_none c.args.values.now c.args.counts.now _ _
 pub put_numbers-next-requires : goal.put_numbers-next-requires
 put_numbers-next-requires c =
     let a = c.args in
-    omega (arith, ap taken c.wire.ensures, wire_room a.values.now a.counts.now c.loop-k.k c.loop-k.invariant a.n c.loop-k-test.true c.requires.2)
+    omega (arith, ap taken c.wire.ensures, wire_room a.values.now a.counts.now c.loop-k.k c.loop-k.invariant _ c.loop-k-test.true c.requires.1)
 
 pub loop-k-preserved : goal.loop-k-preserved
 loop-k-preserved c =
