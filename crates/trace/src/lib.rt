@@ -131,6 +131,7 @@ impl CircuitEvaluation {
     }
 
     // "Each step hands the state on by value and gives it back."
+    // By `match`, here and in an EVAL step: with `map_err` an evaluation takes a tenth longer.
     pub fn do_read(
         mut self,
         ptr: u64,
@@ -142,7 +143,9 @@ impl CircuitEvaluation {
         ensures { step_outcome result (lent values.new counts.new nodes.new) ≡ read_step self ptr word (lent values.old counts.old nodes.old) }
     {
         let tested = self.test_read(ptr, word, values.len(), counts.len(), nodes.len());
-        tested.map_err(|refusal| self.refused(refusal))?;
+        if let Err(refusal) = tested {
+            return Err(self.refused(refusal));
+        }
         self.read(ptr, word[0], word[1], values, counts, nodes);
         self.reads_done += 1;
         self.id_next -= 2;
@@ -160,7 +163,9 @@ impl CircuitEvaluation {
         ensures { step_outcome result (lent values.new counts.new nodes.new) ≡ eval_step self ptr instruction (lent values.old counts.old nodes.old) }
     {
         let tested = self.test_eval(ptr, instruction, values.len(), counts.len(), nodes.len());
-        tested.map_err(|refusal| self.refused(refusal))?;
+        if let Err(refusal) = tested {
+            return Err(self.refused(refusal));
+        }
         let gate = self.evals_done as u64;
         let Ok((id_l, id_r, op)) = decode_instruction(instruction) else {
             return Err(self.refused(Refusal::NotInstruction(gate)));
@@ -169,9 +174,15 @@ impl CircuitEvaluation {
         // "As in the Rust, the left count is raised before the right operand is looked at, and
         // stays raised where the right is refused."
         let left = bus.read_value(id_l as usize, Refusal::LeftNotMade(gate), values, counts);
-        let v_l = left.map_err(|refusal| self.refused(refusal))?;
+        let v_l = match left {
+            Ok(value) => value,
+            Err(refusal) => return Err(self.refused(refusal)),
+        };
         let right = bus.read_value(id_r as usize, Refusal::RightNotMade(gate), values, counts);
-        let v_r = right.map_err(|refusal| self.refused(refusal))?;
+        let v_r = match right {
+            Ok(value) => value,
+            Err(refusal) => return Err(self.refused(refusal)),
+        };
         self.gate(ptr, id_l, id_r, op, v_l, v_r, values, counts, nodes);
         self.evals_done += 1;
         self.id_next = before(self.id_next);
