@@ -24,7 +24,7 @@ pub(crate) fn tell<T: Copy>(answer: Result<T, Refusal>, place: &mut u64) -> u32
 }
 
 // A refusal leaves the header's numbers alone.
-pub(crate) fn tell_header(answer: Result<RecordHeader, Refusal>, header: &mut [u64; 5])
+pub(crate) fn hand_back(answer: Result<RecordHeader, Refusal>, header: &mut [u64; 5])
     ensures { header.new ≡ values_or 5 header.old (header_told answer) }
 {
     if let Ok(told) = answer {
