@@ -4,7 +4,7 @@ ghost use Rattle.refusal.specs.Codes.{code, values_or, place_told};
 ghost use Rattle.trace.specs.Outcome.{lent};
 ghost use Rattle.eval_circuit.specs.Evaluated.{eval_answer, eval_buffers};
 
-use crate::tell::tell;
+use crate::tell::{hand_back, tell};
 use eval_circuit::eval_circuit;
 
 pub fn ace_eval_circuit(
@@ -28,6 +28,6 @@ pub fn ace_eval_circuit(
     let answer = eval_circuit(
         ctx, clk, ptr, num_vars, num_eval, memory, values, counts, nodes,
     );
-    *header = answer.map_or(*header, <[u64; 5]>::from);
+    hand_back(answer, header);
     tell(answer, place)
 }

@@ -1,5 +1,5 @@
 // States and run lists from numbers and back.
-ghost use Rattle.std.specs.Prelude.{◌≡◌, [], ◌∷◌};
+ghost use Rattle.std.specs.Prelude.{◌≡◌};
 ghost use Rattle.ace_c.specs.States.{state_of, six_of};
 ghost use Rattle.ace_c.specs.Lists.{list_of, threes_of};
 
@@ -65,13 +65,11 @@ impl From<Ace> for ListNumbers {
 
     fn from(list: Ace) -> ListNumbers {
         let mut numbers = [0; 96];
-        numbers.copy_from_slice(list.entries.map(three_of).as_flattened());
+        for (i, entry) in list.entries.iter().enumerate() {
+            numbers[3 * i] = entry.clk;
+            numbers[3 * i + 1] = entry.num_read;
+            numbers[3 * i + 2] = entry.num_eval;
+        }
         ListNumbers(numbers, list.len)
     }
-}
-
-fn three_of(entry: Entry) -> [u32; 3]
-    ensures { result ≡ entry.clk ∷ entry.num_read ∷ entry.num_eval ∷ [] }
-{
-    [entry.clk, entry.num_read, entry.num_eval]
 }

@@ -7,7 +7,7 @@ ghost use Rattle.record.specs.Reading.{read_from_answer, read_buffers};
 ghost use Rattle.ace_c.specs.States.{state_of, header_by};
 
 use crate::convert::StateNumbers;
-use crate::tell::tell;
+use crate::tell::{hand_back, tell};
 use record::{read_from, write_into, write_state_into};
 use trace::{CircuitEvaluation, RecordHeader};
 
@@ -76,6 +76,6 @@ pub fn ace_read_from(
     ensures nodes_after { lent values.new counts.new nodes.new ≡ read_buffers bytes.now (lent values.old counts.old nodes.old) }
 {
     let read = read_from(bytes, values, counts, nodes);
-    *header = read.map_or(*header, <[u64; 5]>::from);
+    hand_back(read, header);
     tell(read, place)
 }

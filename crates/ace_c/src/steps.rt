@@ -9,7 +9,7 @@ ghost use Rattle.trace.specs.Output.{output_answer};
 ghost use Rattle.ace_c.specs.States.{state_of, six_of, word_by};
 
 use crate::convert::StateNumbers;
-use crate::tell::tell;
+use crate::tell::{hand_back, tell};
 use in_place::{eval_in_place, read_in_place};
 use trace::CircuitEvaluation;
 
@@ -100,6 +100,6 @@ pub fn ace_output_value(
 {
     let state = CircuitEvaluation::from(StateNumbers(*state, id_next));
     let output = state.output_value(values, counts, nodes);
-    *header = output.map_or(*header, <[u64; 5]>::from);
+    hand_back(output, header);
     tell(output, place)
 }

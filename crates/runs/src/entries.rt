@@ -1,10 +1,11 @@
 // The entries of a run list, those in use first.
-ghost use Rattle.std.specs.Prelude.{◌≡◌, ◌≤◌, ◌<◌, ◌^◌, true, length};
+ghost use Rattle.std.specs.Prelude.{◌≡◌, ◌≤◌, ◌<◌, ◌^◌, true, length, take};
 ghost use Rattle.runs.specs.Entries.{opens, rows_of, total};
 ghost use Rattle.runs.specs.Calls.{most_runs, used, sound_list};
 ghost use Rattle.runs.specs.Inside.{place_answer, opened_at};
 
 use crate::{Ace, Entry, MAX_EVAL_CIRCUIT_INVOCATIONS};
+use std::mem;
 use trace::counts::test_counts;
 
 impl Entry {
@@ -24,7 +25,7 @@ impl Entry {
     }
 }
 
-pub(crate) fn total(entries: &[Entry]) -> u64
+fn total(entries: &[Entry]) -> u64
     requires { length entries.now ≤ most_runs }
     ensures { result ≡ total entries.now }
 {
@@ -55,12 +56,20 @@ impl Ace {
         used.is_sorted_by(|entry, next| entry.clk < next.clk) && used.iter().all(Entry::opens)
     }
 
+    // The rows of the first n entries.
+    pub(crate) fn total_of(&self, n: usize) -> u64
+        requires { n ≤ most_runs }
+        ensures { result ≡ total (take n self.now.entries) }
+    {
+        total(&self.entries[..n])
+    }
+
     // The place of a clock that is there, or the one that it would have.
     pub(crate) fn place_of(&self, clk: u32) -> Result<usize, usize>
         requires { sound_list self.now ≡ true }
         ensures { result ≡ place_answer clk (used self.now) }
     {
-        self.used().binary_search_by_key(&clk, |entry| entry.clk)
+        self.used().binary_search_by(|entry| entry.clk.cmp(&clk))
     }
 
     // Each entry in use from the place on goes one place further.
@@ -69,8 +78,10 @@ impl Ace {
         ensures { self.new ≡ opened_at self.old at entry }
     {
         let len = self.len as usize;
-        self.entries[at..len + 1].rotate_right(1);
-        self.entries[at] = entry;
+        let mut carried = entry;
+        for place in &mut self.entries[at..len + 1] {
+            mem::swap(place, &mut carried);
+        }
         self.len += 1;
     }
 }

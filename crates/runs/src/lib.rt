@@ -6,7 +6,6 @@ mod entries;
 ghost use Rattle.std.specs.Prelude.{◌≡◌};
 ghost use Rattle.runs.specs.Calls.{rows_told, add_told, total_answer, first_row_answer, add_answer, list_after};
 
-use crate::entries::total;
 use refusal::Refusal;
 use trace::counts::test_counts;
 
@@ -35,7 +34,7 @@ impl Ace {
         if !self.is_sound() {
             return Err(Refusal::OutOfTurn);
         }
-        Ok(total(self.used()))
+        Ok(self.total_of(self.len as usize))
     }
 
     // "The first row of a clock, the sum of rows of smaller clocks; or 26."
@@ -48,7 +47,7 @@ impl Ace {
         let Ok(at) = self.place_of(clk) else {
             return Err(Refusal::NoSuchClock);
         };
-        Ok(total(&self.entries[..at]))
+        Ok(self.total_of(at))
     }
 
     // "Adding: then 1, 2, 3 as for opening, 25 (32 other clocks)." "Adding an equal clock replaces

@@ -11,8 +11,8 @@ returns-then-not-is_sound c = row_refused _ _ (sym c.if-not-is_sound.ensures)
 pub returns-in_default : goal.returns-in_default
 returns-in_default c = row_unknown _ _ (sym c.if-not-is_sound.ensures) (told_lacking _ _ _ c.in_default.ensures).0
 
-pub shared_ref_as_front-total : goal.shared_ref_as_front-total
-shared_ref_as_front-total c =
+pub total_of-requires : goal.total_of-requires
+total_of-requires c =
     let l : length c.args.self.entries ≡ 32 = omega arith in
     let sound = sound_of _ (sym c.if-not-is_sound.ensures) in
     let there = told_there _ _ _ c.in-Ok.ensures in
@@ -22,4 +22,4 @@ pub returns : goal.returns
 returns c =
     let l : length c.args.self.entries ≡ 32 = omega arith in
     let there = told_there _ _ _ c.in-Ok.ensures in
-    row_given _ _ _ _ there.0 there.1 c.total.ensures l (sym c.if-not-is_sound.ensures)
+    row_given _ _ _ _ there.0 there.1 c.total_of.ensures l (sym c.if-not-is_sound.ensures)
