@@ -1,11 +1,12 @@
 #!/usr/bin/env python3
-"""Holds docs/CONTRACTS.md to the code: it names every public function and no other, and every wrong
-program of the must-fail edits and no other; and each public function's contract determines its outcome by form: no
-`requires`, an `ensures` that names the result, and `.new` of every `&mut` parameter. The line of each
-also cites the theorem of crates/determined that any two outcomes of that function are the same; but for those
-that work by a type which their caller brings, each with a type parameter, in a section of their own. A method
-is public with its type wherever its block stands, so those of private modules say `pub(crate)`. A static
-library has no lines: it exports the functions of a library, all of them and under the same clauses."""
+"""Holds docs/CONTRACTS.md to the code: it names every public function and no other, and every wrong program of
+the must-fail edits and no other; and each public function's contract determines its outcome by form: no
+`requires`, an `ensures` that names the result, and `.new` of every `&mut` parameter; of a conversion by
+From or TryFrom the law of what it gives. The line of each also cites the theorem of crates/determined that
+any two outcomes of that function are the same; but for those that work by a type which their caller brings,
+each with a type parameter, in a section of their own. A method is public with its type wherever its block
+stands, so those of private modules say `pub(crate)`. A static library has no lines: it exports the
+functions of a library, all of them and under the same clauses."""
 import pathlib
 import re
 import sys
@@ -15,6 +16,7 @@ import wrong
 PAPER = pathlib.Path("docs/CONTRACTS.md")
 PROOFS = pathlib.Path("crates/determined/proofs")
 BY_TYPE = "## Functions whose outcome is a caller's type's too"
+CONVERSION = re.compile(r"\bimpl\s+((?:Try)?From)<([^<>]+)>\s+for\s+([^{<>]+?)\s*\{")
 FUNCTION = re.compile(r"\bpub\s+(?:extern\s+\"C\"\s+)?fn\s+(\w+)\s*(<[^>]*>)?\s*\(")
 TYPE_PARAMETER = re.compile(r"[<,]\s*[A-Z]\w*\s*:")
 CLAUSE = re.compile(r"\s*(requires|ensures)\b\s*\w*\s*\{")
@@ -75,6 +77,16 @@ def functions(text, path):
         yield name, found.group(2) or "", parameters, head.group(1), clauses
 
 
+def conversions(text, path):
+    """The conversions between types that a file makes public, by the names under which proofs cite them, and what each lacks."""
+    for found in CONVERSION.finditer(text):
+        trait, *types = found.groups()
+        source, target = ("Array" * name.startswith("[") + "".join(word[0].upper() + word[1:] for word in re.findall(r"\w+", name)) for name in types)
+        method = "try_from" if trait == "TryFrom" else "from"
+        law = re.search(rf"\bghost\s+{method}_gives\s*=", text[found.end():closing(text, found.end() - 1)])
+        yield f"{path}{target}{trait}{source}::{method}", "", [] if law else ["says nothing of its outcome"]
+
+
 def modules(file, path=""):
     """A module's file and those of the modules that it makes public, each with its path."""
     yield file, path
@@ -91,6 +103,7 @@ def public(crate):
     for file, path in modules(crate / "src/lib.rt", f"{crate.name}::"):
         text = without_comments(file.read_text("utf-8"))
         yield from ((name, types, list(faults(*contract))) for name, types, *contract in functions(text, path))
+        yield from conversions(text, path)
         for name in re.findall(r"\bpub\s+use\s+([^;]+);", text):
             yield path + name, "", ["is passed on by `pub use`, which this check does not follow"]
 

@@ -17,6 +17,12 @@ use Rattle.trace.proofs.CircuitEvaluation.finalized.Reads as finalized
 use Rattle.trace.specs.contracts.CircuitEvaluation.finalized as finalized-contract
 use Rattle.trace.proofs.RecordHeader.test.Reads as test
 use Rattle.trace.specs.contracts.RecordHeader.test as test-contract
+use Rattle.trace.proofs.ArrayU647FromCircuitEvaluation.from.Reads as state-numbers
+use Rattle.trace.specs.contracts.ArrayU647FromCircuitEvaluation.from as state-numbers-contract
+use Rattle.trace.proofs.ArrayU645FromRecordHeader.from.Reads as header-numbers
+use Rattle.trace.specs.contracts.ArrayU645FromRecordHeader.from as header-numbers-contract
+use Rattle.trace.proofs.RefusalFromRefusedStep.from.Reads as step-refusal
+use Rattle.trace.specs.contracts.RefusalFromRefusedStep.from as step-refusal-contract
 
 pub test_counts_determined : Determined test-counts-contract.ended test-counts.Learnt
 test_counts_determined κs a (r, _) (s, _) e f = λ i. (tested_determined r s (same e f) i, _)
@@ -42,3 +48,12 @@ finalized_determined κs a (r, _) (s, _) e f = λ i. (header_determined r s (sam
 
 pub test_determined : Determined test-contract.ended test.Learnt
 test_determined κs a (r, _) (s, _) e f = λ i. (tested_determined r s (same e f) i, _)
+
+pub state_numbers_determined : Determined state-numbers-contract.ended state-numbers.Learnt
+state_numbers_determined κs a (r, _) (s, _) e f = λ i. (same e f i, _)
+
+pub header_numbers_determined : Determined header-numbers-contract.ended header-numbers.Learnt
+header_numbers_determined κs a (r, _) (s, _) e f = λ i. (same e f i, _)
+
+pub step_refusal_determined : Determined step-refusal-contract.ended step-refusal.Learnt
+step_refusal_determined κs a (r, _) (s, _) e f = λ i. (same e f i, _)
