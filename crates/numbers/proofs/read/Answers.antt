@@ -6,7 +6,7 @@ use mathlib.Core.List.{[], ◌∷◌}
 use native.Mathlib.Omega.{arith}
 use borrow.Author.Rules.{rules}
 use lib.ListN.{get_or, length-drop}
-use Rattle.refusal.specs.Told.{accepted}
+use Rattle.refusal.specs.Told.{accepted, refused}
 use Rattle.numbers.proofs.Reading.{reading_start, answer_from, read_short, read_ill, next_byte, byte_passed, last_fits, read_last, unit_fits, more_fits, read_next}
 use Rattle.numbers.proofs.read.Goals as goal
 
@@ -54,4 +54,5 @@ loop-i-preserved c =
     read_next p _ (omega (arith, c.loop-i.auto.i)) c.if-b-lt128.false
 
 pub returns : goal.returns
-returns c = answer_from _ _ (read_short c.loop-i.invariant (omega (arith, length-drop c.args.at c.args.s.now)))
+returns c =
+    ap (refused 15) (omega arith) ∙ answer_from _ _ (read_short c.loop-i.invariant (omega (arith, length-drop c.args.at c.args.s.now)))
