@@ -10,8 +10,10 @@ const MOST_TEXT: usize = 65536;
 // One byte more than is taken, so that a longer text is seen.
 const ROOM: usize = MOST_TEXT + 1;
 
-fn encode(rt: &(impl Print + Eprint), text: &[u8], bytes: &mut [u8]) -> io::Result<()> {
-    match words::encode(text, bytes) {
+fn encode(rt: &(impl Print + Eprint), text: &[u8]) -> io::Result<()> {
+    // Not in main, which would clear it twice.
+    let mut bytes = [0u8; MOST_TEXT];
+    match words::encode(text, &mut bytes) {
         Ok(n) => rt.write_all(&bytes[..n]),
         Err(error) => eprintln!(rt; "{error}"),
     }
@@ -23,6 +25,5 @@ fn main(rt: HostRuntime) -> io::Result<()> {
     if MOST_TEXT < n {
         return eprintln!(rt; "the words take more than {MOST_TEXT} bytes");
     }
-    let mut bytes = [0u8; MOST_TEXT];
-    encode(&rt, &text[..n], &mut bytes)
+    encode(&rt, &text[..n])
 }

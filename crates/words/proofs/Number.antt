@@ -1,22 +1,17 @@
--- The digits of a word are those that std's `parse` reads, and its bytes are a text.
+-- The digits of a word, one by one, and what a word is judged to be.
 -- Assumes nothing.
-use Prim.Native.Nat.{ℕ, ◌^◌, ◌≤◌, ◌<◌}
+use Prim.Native.Nat.{ℕ, ◌+◌, ◌-◌, ◌*◌, ◌^◌, ◌≤◌, ◌<◌}
 use mathlib.Core.Path.{◌≡◌, refl, ap, ap₂, ◌∙◌}
-use mathlib.Core.Bool.{true, false, ◌&&◌}
+use mathlib.Core.Bool.{Bool, true, false, cond, ◌&&◌}
 use mathlib.Core.List.{List, [], ◌∷◌}
-use mathlib.Core.Logic.{⊎_elim}
-use lib.ListN.{length}
-use borrow.Author.Rules.{rules}
+use native.Mathlib.Numerals.{add-one}
+use native.Mathlib.Omega.{arith}
+use lib.ListN.{length, get_or, drop, drop_of_length-le}
+use lib.Seq.{drop-cons}
 use borrow.Author.Tests.{lt-ltb, le-ltb}
 use Rattle.std.specs.Char.{is_ascii_digit}
 use Rattle.std.specs.List.{list_all}
-use Rattle.std.specs.Prelude.{Result, Ok, Err, MatchResult}
-use Rattle.std.specs.Str.{IsUtf8}
-use Rattle.std.specs.Str.Parse.{ParsesUnsigned}
-use Rattle.std.proofs.lemmas.Str.{IsUtf8-from_ascii}
-use Rattle.std.proofs.lemmas.Str.Parse.{IsNumeralModel, numerals_by_fold, parse_digits}
-use Rattle.std.proofs.lemmas.Fmt.{IsAscii-from_digits}
-use Rattle.field.proofs.Cases.{below?}
+use Rattle.std.specs.Prelude.{Result, Ok, Err}
 use Rattle.words.specs.Text.{digit, digits, value_after, value_of}
 use Rattle.words.specs.Inside.{judged}
 use Rattle.words.specs.declared.EncodeError.{EncodeError}
@@ -27,31 +22,55 @@ unfolding digits digit
 digits_tested [] = refl
 digits_tested (c ∷ w) = ap₂ (λ p q. p && q) refl (digits_tested w)
 
-own : IsNumeralModel (λ w. digits w ≡ true) value_of
-unfolding digits digit value_after
-own = numerals_by_fold _ (search rules) value_after (search rules)
+pub digit_tested : (c : ℕ) → is_ascii_digit c ≡ digit c
+unfolding digit
+digit_tested c = refl
 
-pub digits_utf8 : (w : List ℕ) → digits w ≡ true → IsUtf8 w
-digits_utf8 w e = IsUtf8-from_ascii w (IsAscii-from_digits w (own.to w e))
+-- a turn over the digits
+module _ (w : List ℕ) (i : ℕ) (h : i < length w) where
+  next : drop i w ≡ get_or w i 0 ∷ drop (i + 1) w
+  next = rw (add-one i) (drop-cons w i 0 h)
 
-pub judged_not : (w : List ℕ) (k : ℕ) → digits w ≡ false → Err (NotANumber k) ≡ judged w k
-unfolding judged
-judged_not w k e = rw e refl
+  pub digits_next : digit (get_or w i 0) ≡ true → digits (drop i w) ≡ digits (drop (i + 1) w)
+  unfolding digits
+  digits_next e = ap digits next ∙ rw e
 
-judged_number : (w : List ℕ) (k : ℕ) → digits w ≡ true → value_of w < 2 ^ 64 → Ok (value_of w) ≡ judged w k
-unfolding judged
-judged_number w k e h = rw (e, lt-ltb (value_of w) (2 ^ 64) h) refl
+  pub digits_stop : digit (get_or w i 0) ≡ false → digits (drop i w) ≡ false
+  unfolding digits
+  digits_stop e = ap digits next ∙ rw e
 
-judged_large : (w : List ℕ) (k : ℕ) → digits w ≡ true → 2 ^ 64 ≤ value_of w → Err (TooLarge k) ≡ judged w k
-unfolding judged
-judged_large w k e h = rw (e, le-ltb (value_of w) (2 ^ 64) h) refl
+  pub value_next : (v : ℕ) → value_after v (drop i w) ≡ value_after (v * 10 + (get_or w i 0 - 48)) (drop (i + 1) w)
+  unfolding value_after
+  value_next v = ap (value_after v) next
 
--- what `parse` says of digits, with its error told as that of the k-th word
-pub judged_parsed : {E : Type 0} (w : List ℕ) (k : ℕ) (r : Result ℕ E) (s : Result ℕ EncodeError) → ParsesUnsigned 64 10 w r → digits w ≡ true → 0 < length w
-    → MatchResult r (λ v. s ≡ Ok v) (λ _. s ≡ Err (TooLarge k)) → s ≡ judged w k
-judged_parsed {E} w k (Ok v) s p e h m =
-    let f = parse_digits own {E = E} 64 w (Ok v) p e in
-    m ∙ ap Ok f.1 ∙ judged_number w k e f.0.1
-judged_parsed {E} w k (Err x) s p e h m =
-    let f = parse_digits own {E = E} 64 w (Err x) p e in
-    ⊎_elim (λ l. absurd (f (h, l))) (λ l. m ∙ judged_large w k e l) (below? (value_of w) (2 ^ 64))
+module _ (w : List ℕ) (i : ℕ) (h : length w ≤ i) where
+  pub digits_end : digits (drop i w) ≡ true
+  unfolding digits
+  digits_end = ap digits (drop_of_length-le w h)
+
+  pub value_end : (v : ℕ) → value_after v (drop i w) ≡ v
+  unfolding value_after
+  value_end v = ap (value_after v) (drop_of_length-le w h)
+
+-- further digits make a number no smaller
+pub value_least : (w : List ℕ) (v : ℕ) → v ≤ value_after v w
+unfolding value_after
+value_least [] v = omega arith
+value_least (c ∷ w) v = omega (arith, value_least w (v * 10 + (c - 48)))
+
+module _ (w : List ℕ) (k : ℕ) where
+  pub judged_not : digits w ≡ false → Err (NotANumber k) ≡ judged w k
+  unfolding judged
+  judged_not e = rw e refl
+
+  pub judged_number : (v : ℕ) → digits w ≡ true → value_of w ≡ v → v < 2 ^ 64 → Ok v ≡ judged w k
+  unfolding judged
+  judged_number v e q l = rw (e, q, lt-ltb v (2 ^ 64) l) refl
+
+  pub judged_large : 2 ^ 64 ≤ value_of w → Err (cond (digits w) (TooLarge k) (NotANumber k)) ≡ judged w k
+  unfolding judged
+  judged_large l = rw (le-ltb (value_of w) (2 ^ 64) l) (go (digits w))
+    where
+      go : (b : Bool) → ◌≡◌ {A = Result ℕ EncodeError} (Err (cond b (TooLarge k) (NotANumber k))) (cond b (Err (TooLarge k)) (Err (NotANumber k)))
+      go true = refl
+      go false = refl

@@ -11,7 +11,7 @@ ghost use Rattle.words.specs.Text.{words_of, numbers_of};
 ghost use Rattle.words.specs.Answer.{answer_from, encode_answer, encoded};
 ghost use Rattle.words.specs.Inside.{Fits};
 
-use crate::word::{is_parting, number_of};
+use crate::word::{Words, number_of};
 use numbers::{width, write};
 use std::error::Error;
 use std::fmt;
@@ -52,9 +52,8 @@ pub fn encode(text: &[u8], out: &mut [u8]) -> Result<usize, EncodeError>
 fn measure(text: &[u8], room: usize) -> Result<usize, EncodeError>
     ensures { result ≡ answer_from room 1 0 (words_of text.now) }
 {
-    let words = text.split(is_parting).filter(|word| !word.is_empty());
     let mut at = 0;
-    for (i, word) in words.enumerate() {
+    for (i, word) in Words(text).enumerate() {
         let place = i + 1;
         let bytes = width(number_of(word, place)?);
         if room - at < bytes {
@@ -70,9 +69,8 @@ fn put_words(text: &[u8], out: &mut [u8])
     requires { Fits (length out.old) 1 0 (words_of text.now) }
     ensures { out.new ≡ sets out.old 0 (bytes_of_all (numbers_of (words_of text.now))) }
 {
-    let words = text.split(is_parting).filter(|word| !word.is_empty());
     let mut at = 0;
-    for (i, word) in words.enumerate() {
+    for (i, word) in Words(text).enumerate() {
         let number = number_of(word, i + 1).unwrap();
         at = write(number, out, at).unwrap();
     }
