@@ -63,6 +63,10 @@ module _ (s : CircuitEvaluation) (b : Lent) (out : List ℕ) where
   unfolding write_state_answer
   state_stops number place e = finalized_stops s (header_numbers (header_of s)) (write_into_answer (header_of s) b out) number place e
 
+  -- so put for the search
+  pub state_refused : (number place : ℕ) → refused number place ≡ finalized_answer s → write_state_answer s b out ≡ refused number place
+  state_refused number place e = sym (state_stops number place e)
+
   module _ (h : RecordHeader) (e : accepted (header_numbers h) ≡ finalized_answer s) where
     state-goes : write_into_answer h b out ≡ write_state_answer s b out
     unfolding write_state_answer

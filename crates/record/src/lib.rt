@@ -43,6 +43,7 @@ pub fn write_into(
 }
 
 // "Given a step state, 13 and 11 come before these."
+#[tactic(auto, using(crate::proofs::RecordWriting::state_refused))]
 pub fn write_state_into(
     state: CircuitEvaluation,
     values: &[u64],

@@ -94,6 +94,10 @@ module _ (s : CircuitEvaluation) (b : Lent) (offset : ℕ) (rows : List ℕ) whe
       let q = finalized_stops s (header_numbers (header_of s)) (fill_answer (header_of s) b offset rows) n k e in
       (q, ap (λ (t : Told). changed t (rows_written (header_of s) b offset rows) rows) q)
 
+  -- so put for the search
+  pub state_refused : (number place : ℕ) → refused number place ≡ finalized_answer s → fill_state_answer s b offset rows ≡ refused number place
+  state_refused number place e = sym (state_stops number place e).0
+
   -- the header of a finished state, and the fill of that
   pub state_fills : (h : RecordHeader) (t : Told) (filled : List ℕ) → accepted (header_numbers h) ≡ finalized_answer s → t ≡ fill_answer h b offset rows → filled ≡ filled_rows h b offset rows
       → (t ≡ fill_state_answer s b offset rows) × (filled ≡ state_rows s b offset rows)

@@ -54,6 +54,7 @@ pub fn fill(
 }
 
 // "Given a step state, 13 and 11 come before these."
+#[tactic(auto, using(crate::proofs::Filling::state_refused))]
 pub fn fill_state(
     state: CircuitEvaluation,
     values: &[u64],
