@@ -1,18 +1,22 @@
--- Laws of storing: what the copy does, and what a caller uses of it.
+-- Laws of storing: what its loop does, and what a caller uses of it.
 -- Assumes nothing.
-use Rattle.std.proofs.Common.{◌≡◌, ℕ, ◌+◌, ◌-◌, ◌≤◌, List, length, arith, refl, append_assoc}
-use Rattle.std.proofs.lemmas.List.Edits.{sets, sets-eq, paste_all}
-use Rattle.std.proofs.lemmas.Slice.{put_mid-paste}
+use Rattle.std.proofs.Common.{◌≡◌, ℕ, suc, ◌+◌, ◌≤◌, ◌<◌, List, length, get_or, arith}
+use Rattle.std.proofs.lemmas.List.Edits.{sets}
 use borrow.Author.Tests.{le-leb}
-use borrow.Rule.Slice.PartMut.{put_mid}
+use lib.ListN.{set, drop, drop_of_length-le}
+use lib.Seq.{drop-cons}
 use Rattle.buffer.specs.Stored.{stored}
+
+-- what is left to store after one cell more, whatever text makes its places, and after the last
+pub one_more : (cells buffer : List ℕ) (at i from to : ℕ) → i < length cells → from ≡ i → to ≡ at + i
+    → sets (set buffer to (get_or cells from 0)) (at + (i + 1)) (drop (i + 1) cells) ≡ sets buffer (at + i) (drop i cells)
+one_more cells buffer at i from to h k l =
+    let e : at + (i + 1) ≡ suc (at + i) = omega arith in
+    let f : i + 1 ≡ suc i = omega arith in
+    rw (k, l, e, f, drop-cons cells i 0 h)
+
+pub none_left : (cells buffer : List ℕ) (at i : ℕ) → length cells ≤ i → sets buffer (at + i) (drop i cells) ≡ buffer
+none_left cells buffer at i h = rw (drop_of_length-le cells {i = i} h)
 
 pub stored_all : (cells : List ℕ) (at : ℕ) (buffer : List ℕ) → at + length cells ≤ length buffer → stored cells at buffer ≡ sets buffer at cells
 stored_all cells at buffer h = rw (le-leb _ _ h)
-
--- a copy to the part from a place on
-pub copied : (cells part : List ℕ) (at : ℕ) (buffer : List ℕ) → at + length cells ≤ length buffer → part ≡ cells
-    → put_mid at (at + length cells - at) buffer part ≡ stored cells at buffer
-copied cells part at buffer h e =
-    let n : at + length cells - at ≡ length cells = omega arith in
-    rw (n, put_mid-paste at (length cells) buffer part cells (length cells) e refl refl, paste_all buffer at cells (length cells) refl, stored_all cells at buffer h, sets-eq cells buffer at h, append_assoc)
